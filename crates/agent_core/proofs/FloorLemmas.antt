@@ -1,6 +1,6 @@
 -- The floor of tier 0 rises with beats whose moments rise, and lies at most at the last of them. A list of beats has the
 -- latest first.
-use Rattle.std.proofs.Common.{ℕ, zero, suc, ◌+◌, ◌<◌, ◌≤◌, nat_lt, List, [], ◌∷◌, Option, Some, None, slice_get, arith}
+use Rattle.std.proofs.Common.{ℕ, zero, suc, ◌+◌, ◌≤◌, nat_lt, List, [], ◌∷◌, Option, Some, None, slice_get, arith}
 use Rattle.std.specs.Option.{option_map_or}
 use Rattle.std.proofs.lemmas.Bool.{cond_both}
 use Rattle.tier_settings.specs.declared.tier.Tier.{Tier}

@@ -1,9 +1,9 @@
 -- A child answers the same from the names that its beats use as from all of them.
-use Rattle.std.proofs.Common.{◌≡◌, ℕ, zero, suc, ◌==◌, ◌+◌, Bool, true, false, ◌||◌, leb, ltb, max, cond, List, [], ◌∷◌, ◌++◌, length, map, take, slice_get, Option, Some, None, inl, inr, refl, sym, ap, subst, ◌∙◌, arith, true≢false}
+use Rattle.std.proofs.Common.{◌≡◌, ℕ, zero, suc, ◌==◌, ◌+◌, Bool, true, false, ◌||◌, leb, ltb, max, cond, List, [], ◌∷◌, length, map, take, slice_get, Option, Some, None, inl, inr, refl, sym, ap, subst, ◌∙◌, arith, true≢false}
 use Rattle.std.specs.List.{AllByRecursion}
 use Rattle.std.specs.Option.{option_map, option_map_or}
 use Rattle.std.proofs.lemmas.Bool.{cases_Bool, cond-true, cond-false, eqb-true, false_from_ne_true, or_cases}
-use Rattle.std.proofs.lemmas.List.{map-append, take-map}
+use Rattle.std.proofs.lemmas.List.{take-map}
 use Rattle.std.proofs.lemmas.Option.{slice_get-map}
 use Rattle.list_lemmas.proofs.Every.{all-append, all-filter, all-take}
 use Rattle.replication.specs.declared.ask.Ask.{Ask}
@@ -21,6 +21,7 @@ use Rattle.replication.proofs.Copies.{all-map}
 use Rattle.replication.proofs.NamesLaws.{above-map, all-split, all-used, latest-map, IsUsed}
 use Rattle.replication.proofs.Places.{count_from-more, select-place}
 use Rattle.replication.proofs.Wholes.{chart-used}
+use Rattle.link_frames.proofs.AnswerLaw.{words-placed}
 use Rattle.link_frames.proofs.PlacesLaw.{place-same}
 
 -- ---- what is selected of what was selected
@@ -193,10 +194,6 @@ module _ (names : Names) (words : List SeriesWord) where
         λ i. record { charts = by_charts i; dimensions = dimensions i }
 
   -- ---- the Data of some of the beats
-  words-placed : (beats : List Beat) → words_of (map (placed_beat series) beats) ≡ moved (words_of beats)
-  words-placed [] = refl
-  words-placed (beat ∷ beats) = ap (λ (rest : List SeriesWord). moved beat.words ++ rest) (words-placed beats) ∙ sym (map-append (placed_word series) beat.words (words_of beats))
-
   abbrev Among : Beat → Type 0
   Among beat = AreAmong words beat.words
 
@@ -218,9 +215,9 @@ module _ (names : Names) (words : List SeriesWord) where
     data-same beats all =
         let among = all-among beats all in
         let from = from_of floor prev in
-        let same_names : used_names few (words_of (place_all beats)) ≡ used_names names (words_of beats) = ap (used_names few) (words-placed beats) ∙ names-twice (words_of beats) among in
+        let same_names : used_names few (words_of (place_all beats)) ≡ used_names names (words_of beats) = ap (used_names few) (words-placed series beats) ∙ names-twice (words_of beats) among in
         let same_beats : map (placed_beat (uses (words_of (place_all beats)))) (place_all beats) ≡ map (placed_beat (uses (words_of beats))) beats =
-        ap (λ (some : List SeriesWord). map (placed_beat (uses some)) (place_all beats)) (words-placed beats) ∙ beats-twice (words_of beats) among beats in
+        ap (λ (some : List SeriesWord). map (placed_beat (uses some)) (place_all beats)) (words-placed series beats) ∙ beats-twice (words_of beats) among beats in
         let upto : latest beat_moment from (place_all beats) ≡ latest beat_moment from beats = latest-map beat_moment beat_moment (placed_beat series) (λ beat. refl) from beats in
         λ i. record { child = child; prev = prev; from = from; upto = upto i; floor = floor; names = same_names i; beats = same_beats i }
 

@@ -18,12 +18,13 @@ use Rattle.link_frames.specs.Children.{KeepsRules}
 use Rattle.link_frames.specs.DataForm.{has_rising_places, has_storage_numbers}
 use Rattle.link_frames.specs.Fields.{FitsBeat}
 use Rattle.link_frames.proofs.PlacesLaw.{of-all}
+use Rattle.link_frames.proofs.AnswerLaw.{beats-fit}
 use Rattle.agent_core.specs.Asking.{AreInUtf8, HasChart, IsSendable}
 use Rattle.agent_core.specs.Copies.{names_of}
 use Rattle.agent_core.specs.Rules.{HasLimits}
 use Rattle.agent_core.specs.Used.{has, items_at, Rise}
 use Rattle.agent_core.proofs.SentNames.{names-sent, told, told_of, MayName}
-use Rattle.agent_core.proofs.UsedBeats.{placed-fits, placed-sendable}
+use Rattle.agent_core.proofs.UsedBeats.{placed-sendable}
 use Rattle.agent_core.proofs.UsedNames.{all-own, few-answer}
 use Rattle.agent_core.proofs.UsedRegistry.{all-stay, dimensions-picked, used-told}
 
@@ -68,7 +69,7 @@ module _ (registry : Registry) (apart_charts : AreApart same_chart registry.char
       let size : length (select (uses words) 0 registry.dimensions) ≡ length few.dimensions = sym (length-map (select (uses words) 0 registry.dimensions) (told registry charts)) in
       subst (λ (names : Names). KeepsRules names placed) (sym are)
       (subst (KeepsRules few) (sym moved_are)
-      (keeps-rules few may moved moved_rise (placed-fits (uses words) beats fits) (subst (λ (n : ℕ). AllByRecursion (IsSendable n) moved) size moved_may)))
+      (keeps-rules few may moved moved_rise (beats-fit (uses words) beats fits) (subst (λ (n : ℕ). AllByRecursion (IsSendable n) moved) size moved_may)))
 
 -- and a child answers the same from them
 pub used-answer : (all : Names) (beats : List SentBeat) (series : List ℕ) → has series ≡ uses (words_of beats) → (names : Names) → names ≡ used_names all (words_of beats)

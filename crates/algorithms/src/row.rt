@@ -9,11 +9,11 @@ use crate::last::{Last, LastList};
 use crate::sample::{self, Sample};
 use crate::{total, word};
 use fixed_num::ListOf;
-use history::{DimDef, Value, ValueList};
+use history::{DimDef, MOST_DIMENSIONS_OF_CHART, Value, ValueList};
 use std::alloc::Global;
 
 /// The most values of a row.
-pub const ROW_LIMIT: usize = 1024;
+pub const ROW_LIMIT: usize = MOST_DIMENSIONS_OF_CHART as usize;
 
 /// Definitions of dimensions.
 pub type DimList = ListOf<DimDef>;

@@ -2,11 +2,12 @@ ghost use Rattle.std.specs.Prelude.{◌≡◌, ℕ, ◌^◌, ◌≤◌, ℤ, ◌
 ghost use Rattle.history.specs.Points.{total, total_difference};
 ghost use Rattle.algorithms.specs.Samples.{cell_at};
 
+use crate::row::ROW_LIMIT;
 use crate::sample::Sample;
 
 /// The sum of a row's values, at most 2^74: 1,024 of at most 2^63 each.
 pub fn total(samples: &[Sample]) -> i128
-    requires { length samples.now ≤ 1024 }
+    requires { length samples.now ≤ ROW_LIMIT }
     ensures value { result ≡ total (map cell_at samples.now) }
     ensures bound { unsigned_abs result ≤ 2 ^ 74 }
 {
@@ -20,7 +21,7 @@ pub fn total(samples: &[Sample]) -> i128
 /// The sum of the rises of a row's values that have one before, at most 2^74: 1,024 of at most 2^64
 /// each.
 pub fn total_difference(samples: &[Sample]) -> i128
-    requires { length samples.now ≤ 1024 }
+    requires { length samples.now ≤ ROW_LIMIT }
     ensures value { result ≡ total_difference (map cell_at samples.now) }
     ensures bound { unsigned_abs result ≤ 2 ^ 74 }
 {

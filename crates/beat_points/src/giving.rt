@@ -8,7 +8,7 @@ use crate::series_word::{SeriesWord, SeriesWordList};
 use algorithms::{Last, Sample, sample_words};
 use chart_registry::Registry;
 use fixed_num::ListOf;
-use history::{Row, Value};
+use history::{MOST_DIMENSIONS_OF_CHART, Row, Value};
 use std::alloc::Global;
 
 /// Adds the word of a series, if there is one.
@@ -52,7 +52,7 @@ fn push_row(
     requires chart { row.now.chart < length registry.now.charts }
     requires dimensions { All (λ value.
         value.series < length registry.now.dimensions) row.now.values }
-    requires limit { length row.now.values ≤ 1024 }
+    requires limit { length row.now.values ≤ MOST_DIMENSIONS_OF_CHART }
     ensures { OnOk result (points.new.items
         ≡ points.old.items ++ row_pairs registry.now last.now moment row.now) }
 {
@@ -89,7 +89,7 @@ pub(crate) fn gather(
     requires charts { All (λ row. row.chart < length registry.now.charts) rows.now }
     requires dimensions { All (λ row.
         All (λ value. value.series < length registry.now.dimensions) row.values) rows.now }
-    requires limit { All (λ row. length row.values ≤ 1024) rows.now }
+    requires limit { All (λ row. length row.values ≤ MOST_DIMENSIONS_OF_CHART) rows.now }
     ensures { IfOk result (λ points.
         points.items ≡ rows_pairs registry.now last.now moment rows.now) }
 {

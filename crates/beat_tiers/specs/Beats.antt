@@ -63,7 +63,7 @@ records_in width bucket beats = filter_map (λ series. option_map (λ one. (seri
 -- below 65,536, and there are none without a moment.
 abbrev pub AreAbove : ℕ → List BeatPoint → Type 0
 AreAbove least [] = Unit {0}
-AreAbove least (point ∷ points) = (least ≤ point.series) × (point.series < 65536) × AreAbove (point.series + 1) points
+AreAbove least (point ∷ points) = (least ≤ point.series) × (point.series < MOST_SERIES) × AreAbove (point.series + 1) points
 
 pub record Follows (beat : TierBeat) (beats : List TierBeat) : Type 0 where
   pub later : option_map_or (λ moment. nat_lt (last beats) moment) beat.moment true ≡ true

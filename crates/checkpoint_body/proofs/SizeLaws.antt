@@ -1,5 +1,5 @@
 -- How many bytes the parts of a body have, and the body at most.
-use Rattle.std.proofs.Common.{◌≡◌, ℕ, ℤ, zero, suc, ◌+◌, ◌*◌, ◌<◌, ◌≤◌, ◌%◌, Bool, true, cond, ◌&&◌, not, ◌==◌, ltb, leb, List, [], ◌∷◌, ◌++◌, length, map, flat_map, refl, ap, ◌∙◌, zero-add, arith, length-append}
+use Rattle.std.proofs.Common.{◌≡◌, ℕ, zero, suc, ◌+◌, ◌*◌, ◌<◌, ◌≤◌, ◌%◌, Bool, true, cond, ◌&&◌, not, ◌==◌, ltb, leb, List, [], ◌∷◌, ◌++◌, length, map, flat_map, refl, ap, ◌∙◌, zero-add, arith, length-append}
 use Rattle.std.specs.Prelude.{sum_by, count_by}
 use Rattle.std.specs.List.{list_all}
 use Rattle.std.proofs.Math.Nat.{mul-add}
@@ -13,7 +13,7 @@ use Rattle.tier_settings.specs.declared.settings.Settings.{Settings}
 use Rattle.tier_settings.specs.declared.tier.Tier.{Tier}
 use Rattle.tier_settings.specs.Limits.{HasWidths}
 use Rattle.tier_settings.specs.Settings.{tier_with}
-use Rattle.field_codec.specs.Spelling.{i128_bytes, list_bytes, sized_bytes, u32_bytes, u64_bytes, u8_bytes}
+use Rattle.field_codec.specs.Spelling.{list_bytes, sized_bytes, u32_bytes, u64_bytes, u8_bytes}
 use Rattle.field_codec.proofs.Lengths.{length-i128_bytes, length-list_bytes, length-sized_bytes, length-u32_bytes, length-u64_bytes, length-u8_bytes}
 use Rattle.checkpoint_body.specs.declared.body.Body.{Body}
 use Rattle.checkpoint_body.specs.declared.body.Extent.{Extent}

@@ -5,7 +5,7 @@ use tier_settings::Settings;
 /// A kept extent: where a sealed segment stands in the file of extents of its tier.
 #[derive(Clone, Copy, Debug, PartialEq, Eq)]
 pub struct Extent {
-    /// The slot of the file, from 0 to the number of extents that the tier keeps.
+    /// The slot of the file of its tier. Whether that has it, and no other extent stands in it, is not said here.
     pub slot: u32,
     pub serial: u64,
     /// The moment of the beat that sealed the segment, in seconds.

@@ -15,7 +15,7 @@ use crate::slots::MOST_SLOTS;
 use crate::span::Span;
 use tier_settings::{MOST_SERIES, Tier, are_tiers};
 
-/// Whether a tier keeps as many extents.
+/// Whether these are at most as many extents as the tier keeps.
 fn are_few(tier: &Tier, extents: &[Extent]) -> bool
     ensures { result ≡ are_few tier.now extents.now }
 {

@@ -10,8 +10,8 @@
 //! A `Body` says what is kept of a database: its settings, how many beats it has taken, of each
 //! tier the floor, the kept extents, the open records and the pages of the segment that is not
 //! full, and what is kept beside the tiers. It has one spelling, where it is in the form in which
-//! it is written: no tier has more than its settings allow, each thing is named once, and lists
-//! have their order. What is written is the spelling, and what is read of bytes has them as its
+//! it is written: no tier has more than its settings allow, each series has one open record at
+//! most, and lists have their order. What is written is the spelling, and what is read of bytes has them as its
 //! spelling: so two bodies never share one, what was written is read again, and bytes that are no
 //! spelling are refused. The settings and the side say how many bytes it has at most. A list grows
 //! with the items that are read, so that a count takes no memory by itself.

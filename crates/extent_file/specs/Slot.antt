@@ -1,6 +1,6 @@
 -- The places of a tier's file: slots of one size, one after the other.
 use Rattle.std.specs.Prelude.{◌==◌, ℕ, ◌+◌, ◌-◌, ◌*◌, ◌≤◌, if◌then◌else◌}
-use Rattle.extent_file.specs.declared.sizes.TheConstants.{MORE_ITEMS}
+use Rattle.extent_file.specs.declared.sizes.TheConstants.{ENTRY_SIZE, HEAD_SIZE, MORE_ITEMS}
 use Rattle.host_model.specs.declared.file.File.{File}
 use Rattle.host_model.specs.Past.{file_number}
 
@@ -21,7 +21,7 @@ most_items tier = if tier == 0 then 1024 else 73
 
 -- how many bytes a slot has, in a tier whose segments are sealed once they have so many items, or more
 abbrev pub slot_size : ℕ → ℕ → ℕ
-slot_size tier items = 24 + (items + MORE_ITEMS) * (24 + item_size tier)
+slot_size tier items = HEAD_SIZE + (items + MORE_ITEMS) * (ENTRY_SIZE + item_size tier)
 
 -- where a slot begins
 abbrev pub slot_start : ℕ → ℕ → ℕ → ℕ

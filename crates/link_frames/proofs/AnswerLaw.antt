@@ -90,7 +90,7 @@ charts-used names words p lt =
     (eq-eqb (place charts dimension.0.chart) p (ap (place charts) dimension.2 ∙ old.3))
 
 -- ---- beats
-words-placed : (test : ℕ → Bool) (beats : List Beat) → words_of (map (placed_beat test) beats) ≡ map (placed_word test) (words_of beats)
+pub words-placed : (test : ℕ → Bool) (beats : List Beat) → words_of (map (placed_beat test) beats) ≡ map (placed_word test) (words_of beats)
 words-placed test [] = refl
 words-placed test (beat ∷ beats) =
     ap (λ (rest : List SeriesWord). map (placed_word test) beat.words ++ rest) (words-placed test beats) ∙ sym (map-append (placed_word test) beat.words (words_of beats))
@@ -107,7 +107,7 @@ dimensions-used child floor prev names beats p lt =
     (slice_get-map (placed_word (uses words)) words word.0 ∙ ap (option_map (placed_word (uses words))) word.2)
     (eq-eqb (place (uses words) word.1.series) p (ap (place (uses words)) (eqb-true word.1.series old.0 word.3) ∙ old.3)))
 
-rising-words : (test : ℕ → Bool) (words : List SeriesWord) → AllByRecursion (λ (w : SeriesWord). test w.series ≡ true) words → is_ascending (map place_of words) ≡ true
+pub rising-words : (test : ℕ → Bool) (words : List SeriesWord) → AllByRecursion (λ (w : SeriesWord). test w.series ≡ true) words → is_ascending (map place_of words) ≡ true
     → is_ascending (map place_of (map (placed_word test) words)) ≡ true
 rising-words test [] used rises = refl
 rising-words test (a ∷ []) used rises = refl
@@ -130,7 +130,7 @@ number-beats : (test : ℕ → Bool) (beats : List Beat) → AllByRecursion (λ 
 number-beats test [] all = tt
 number-beats test (beat ∷ beats) all = (list_all-map is_storage_number (placed_word test) beat.words ∙ all.0, number-beats test beats all.1)
 
-beats-fit : (test : ℕ → Bool) (beats : List Beat) → AllByRecursion FitsBeat beats → AllByRecursion FitsBeat (map (placed_beat test) beats)
+pub beats-fit : (test : ℕ → Bool) (beats : List Beat) → AllByRecursion FitsBeat beats → AllByRecursion FitsBeat (map (placed_beat test) beats)
 beats-fit test beats all =
     all-of-map FitsBeat (placed_beat test) beats (all-map FitsBeat (λ (beat : Beat). FitsBeat (placed_beat test beat)) beats (λ beat one. record {
       moment = one.moment;

@@ -2,6 +2,7 @@ ghost use Rattle.std.specs.Prelude.{◌≡◌, ◌+◌, ◌%◌, ◌<◌, ◌≤
 ghost use Rattle.page_buffer.specs.Items.{record_bytes, record_from, records_of, IsRecords};
 
 use crate::raw::{append, fill};
+use crate::record_page::MOST_RECORDS;
 use byteorder::{ByteOrder, LittleEndian};
 use fixed_num::Record;
 use page_pool::{PAGE_SIZE, RawPage};
@@ -78,7 +79,7 @@ impl Records {
     }
 
     pub(crate) fn push(&mut self, item: Record)
-        requires { length self.old < 73 }
+        requires { length self.old < MOST_RECORDS }
         ensures { self.new ≡ self.old ++ item ∷ [] }
     {
         append_record(&mut self.page, item);
@@ -93,7 +94,7 @@ impl Records {
 
     pub(crate) fn len(&self) -> usize
         ensures value { result ≡ length self.now }
-        ensures most { result ≤ 73 }
+        ensures most { result ≤ MOST_RECORDS }
     {
         self.page.len() / RECORD_SIZE
     }

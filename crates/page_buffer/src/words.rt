@@ -2,6 +2,7 @@ ghost use Rattle.std.specs.Prelude.{◌≡◌, ◌+◌, ◌%◌, ◌<◌, ◌≤
 ghost use Rattle.page_buffer.specs.Items.{words_of, IsWords};
 
 use crate::raw::{append, fill};
+use crate::slot_page::MOST_SLOTS;
 use byteorder::{ByteOrder, LittleEndian};
 use page_pool::{PAGE_SIZE, RawPage};
 use std::marker::Model;
@@ -45,7 +46,7 @@ impl Words {
     }
 
     pub(crate) fn push(&mut self, word: u32)
-        requires { length self.old < 1024 }
+        requires { length self.old < MOST_SLOTS }
         ensures { self.new ≡ self.old ++ word ∷ [] }
     {
         append(&mut self.page, &word.to_le_bytes());
@@ -54,7 +55,7 @@ impl Words {
     /// Adds so many zeros, and then the word.
     #[tactic(auto, using(crate::proofs::SlotLemmas::word_behind, crate::proofs::SlotLemmas::one_zero_more, crate::proofs::SlotLemmas::with_zeros_length))]
     pub(crate) fn push_after(&mut self, empty: usize, word: u32)
-        requires { length self.old + empty < 1024 }
+        requires { length self.old + empty < MOST_SLOTS }
         ensures { self.new ≡ self.old ++ (replicate empty 0 ++ word ∷ []) }
     {
         for _ in 0..empty {
@@ -72,7 +73,7 @@ impl Words {
 
     pub(crate) fn len(&self) -> usize
         ensures value { result ≡ length self.now }
-        ensures most { result ≤ 1024 }
+        ensures most { result ≤ MOST_SLOTS }
     {
         self.page.len() / 4
     }

@@ -96,8 +96,9 @@ pub(crate) fn put(side: &Side, writer: &mut Writer) -> Result<(), FieldFault>
 pub(crate) fn take(alloc: Global, reader: &mut Reader<'_>) -> Result<Definitions, FieldFault>
     ensures taken { IfOk result
         (λ definitions. read_definitions reader.old ≡ Ok (definitions, reader.new)) }
-    ensures charts { IfOk result (λ definitions. length definitions.charts ≤ 4096) }
-    ensures dimensions { IfOk result (λ definitions. length definitions.dimensions ≤ 65536) }
+    ensures charts { IfOk result (λ definitions. length definitions.charts ≤ MOST_CHARTS) }
+    ensures dimensions { IfOk result
+        (λ definitions. length definitions.dimensions ≤ MOST_DIMENSIONS) }
     ensures fault { IfErr result (IsRefusal (read_definitions reader.old)) }
 {
     let charts = take_list::<EntryFormat, NumberedChart>(alloc, reader)?;

@@ -5,8 +5,8 @@
 //! the next body. Proved is, over an honest host: a disk holds one contents at most, and none where a part is
 //! damaged. A whole database is opened, but for the disk or memory; else `open` says that there is none, or which
 //! part is damaged. A crash leaves at every moment of `create` what it might have left before, no database, or the
-//! new one. Of `append` and `checkpoint`, where the body names kept or new extents, it leaves the old contents or
-//! the new, and at `Ok` the new. No other file is touched. Where each file has at most its share, and what is
+//! new one. Of `append` and `checkpoint`, where the body names kept or new extents, each in a slot of its own, it leaves
+//! the old contents or the new, and at `Ok` the new. No other file is touched. Where each file has at most its share, and what is
 //! written fits the shares, each crash leaves it so.
 //!
 //! It stands on `checkpoint`, `journal_core`, `extent_file`, `checkpoint_body`, `page_buffer`, `page_pool`,

@@ -14,7 +14,7 @@ use Rattle.checkpoint_body.specs.declared.body.Extent.{Extent}
 use Rattle.checkpoint_body.specs.Canonical.{are_few}
 use Rattle.checkpoint_body.specs.Fields.{FitsExtent}
 use Rattle.store_core.specs.disk.Next.{AreApart, AreFree, GoesOn, IsKeptOrNew, Written}
-use Rattle.store_core.specs.disk.Slots.{are_apart, are_placed, is_used, IsUnused}
+use Rattle.store_core.specs.disk.Slots.{are_apart, have_slots, is_used, IsUnused}
 use Rattle.extent_file.specs.declared.page.Page.{Page}
 use Rattle.tier_settings.specs.declared.tier.Tier.{Tier}
 use Rattle.store_core.specs.bodies.Next.{count_found, pages_after, sealed_after, AreNew, AreNext, IsNew}
@@ -178,7 +178,7 @@ module _ {T Paged W : Type 0} (tier : ℕ) (written : W → Written) (pages_of :
     next-counted settings most = le-leb (length next) settings.extents (omega (arith, next-few, most))
 
     -- each has a slot of its own
-    pub next-placed : (limit : ℕ) → length old ≤ limit → are_placed limit old ≡ true → are_placed limit next ≡ true
+    pub next-placed : (limit : ℕ) → length old ≤ limit → have_slots limit old ≡ true → have_slots limit next ≡ true
     next-placed limit few placed =
         let parts = and_parts (list_all (is_low limit) old) (are_apart old) placed in and_from _ _ (next-low limit few parts.0) (next-apart parts.1)
 

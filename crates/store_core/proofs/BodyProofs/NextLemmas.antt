@@ -24,7 +24,7 @@ use Rattle.store_core.specs.disk.Holds.{page_of_records, page_of_slots}
 use Rattle.store_core.specs.disk.Kept.{HasPagesOfEach}
 use Rattle.store_core.specs.disk.Next.{written_records, written_slots, AreWritable, GoesOn, IsNext, IsWritable}
 use Rattle.store_core.specs.disk.Shares.{AreSlotsOf, HasOwnSlots}
-use Rattle.store_core.specs.disk.Slots.{are_placed, extents_of, is_placed}
+use Rattle.store_core.specs.disk.Slots.{have_slots, most_extents, has_own_slots}
 use Rattle.tier_settings.specs.declared.limits.TheConstants.{MOST_EXTENTS, MOST_ITEMS}
 use Rattle.tier_settings.specs.declared.settings.Settings.{Settings}
 use Rattle.tier_settings.specs.declared.tier.Tier.{Tier}
@@ -381,26 +381,26 @@ module _ (body : Body) (kept : KeptPages) (spelt : HasSpelling body) (were_last 
         is.records.1.extents hours.tier.extents going-hours.named);
   }
 
-  next-own_slots : is_placed body ≡ true → is_placed next ≡ true
+  next-own_slots : has_own_slots body ≡ true → has_own_slots next ≡ true
   next-own_slots placed =
-      let both = and_parts (are_placed (extents_of body 0) body.points.extents && are_placed (extents_of body 1) body.minutes.extents) (are_placed (extents_of body 2) body.hours.extents) placed in
-      let one = and_parts (are_placed (extents_of body 0) body.points.extents) (are_placed (extents_of body 1) body.minutes.extents) both.0 in
+      let both = and_parts (have_slots (most_extents body 0) body.points.extents && have_slots (most_extents body 1) body.minutes.extents) (have_slots (most_extents body 2) body.hours.extents) placed in
+      let one = and_parts (have_slots (most_extents body 0) body.points.extents) (have_slots (most_extents body 1) body.minutes.extents) both.0 in
       let is_first = first-is body kept spelt were_last last were_first first were_points points were_minutes were_hours minutes hours on in
       let is_minutes = minutes-is body kept spelt were_last last were_first first were_points points were_minutes were_hours minutes hours on in
       let is_hours = hours-is body kept spelt were_last last were_first first were_points points were_minutes were_hours minutes hours on in
       and_from _ _
       (and_from _ _
-      (subst (λ (tier : Tier). are_placed tier.extents next.points.extents ≡ true) first-next
+      (subst (λ (tier : Tier). have_slots tier.extents next.points.extents ≡ true) first-next
       (next-placed 0 written_slots pages_of_slots AreSlotPagesOf beats_in beats_before body.last body.points.extents points next.points.extents new.points is.points.extents first.extents going-points.named
-      (subst (λ (tier : Tier). are_placed tier.extents body.points.extents ≡ true) is_first one.0)))
-      (subst (λ (tier : Tier). are_placed tier.extents next.minutes.extents ≡ true) minutes-next
+      (subst (λ (tier : Tier). have_slots tier.extents body.points.extents ≡ true) is_first one.0)))
+      (subst (λ (tier : Tier). have_slots tier.extents next.minutes.extents ≡ true) minutes-next
       (next-placed 1 written_records pages_of_records (AreRecordPagesOf 1 minutes.tier.width) no_beats_in no_beats_before body.last body.minutes.extents minutes.segments next.minutes.extents new.minutes
       is.records.0.extents minutes.tier.extents going-minutes.named
-      (subst (λ (tier : Tier). are_placed tier.extents body.minutes.extents ≡ true) is_minutes one.1))))
-      (subst (λ (tier : Tier). are_placed tier.extents next.hours.extents ≡ true) hours-next
+      (subst (λ (tier : Tier). have_slots tier.extents body.minutes.extents ≡ true) is_minutes one.1))))
+      (subst (λ (tier : Tier). have_slots tier.extents next.hours.extents ≡ true) hours-next
       (next-placed 2 written_records pages_of_records (AreRecordPagesOf 2 hours.tier.width) no_beats_in no_beats_before body.last body.hours.extents hours.segments next.hours.extents new.hours
       is.records.1.extents hours.tier.extents going-hours.named
-      (subst (λ (tier : Tier). are_placed tier.extents body.hours.extents ≡ true) is_hours both.1)))
+      (subst (λ (tier : Tier). have_slots tier.extents body.hours.extents ≡ true) is_hours both.1)))
 
   next-follows : (contents : Contents) → contents.body ≡ body → HasPagesOfEach body contents.kept → IsNext contents new next (next_pages body next new contents.kept)
   next-follows contents same each =
@@ -408,7 +408,7 @@ module _ (body : Body) (kept : KeptPages) (spelt : HasSpelling body) (were_last 
       let pages = next_pages body next new contents.kept in
       record {
         settings = is.settings ∙ ap (λ (one : Body). one.settings) back;
-        slots = subst (λ (one : Body). is_placed one ≡ true → is_placed next ≡ true) back next-own_slots;
+        slots = subst (λ (one : Body). has_own_slots one ≡ true → has_own_slots next ≡ true) back next-own_slots;
         points =
             subst (λ (one : Body). GoesOn 0 one.points.extents (map (map page_of_slots) contents.kept.points) (map written_slots new.points) next.points.extents (map (map page_of_slots) pages.points)) back
             (next-kept 0 written_slots pages_of_slots AreSlotPagesOf beats_in beats_before body.last body.points.extents points next.points.extents new.points is.points.extents

@@ -20,7 +20,7 @@ use Rattle.store_core.specs.disk.Beginning.{empty_journal, Begins, OnlyBoth}
 use Rattle.store_core.specs.disk.Contents.{new_contents, next_contents, Contents, KeptPages}
 use Rattle.store_core.specs.disk.Files.{FilesState, IsOpenOf}
 use Rattle.store_core.specs.disk.Holds.{items_of, journal_file, AreKept, Holds, HoldsEither, HoldsIfMade, Lie, OnlyOwn}
-use Rattle.store_core.specs.disk.Slots.{are_placed, extents_of}
+use Rattle.store_core.specs.disk.Slots.{have_slots, most_extents}
 use Rattle.store_core.proofs.DiskProofs.BeginLemmas.{by_journal, journal_beside_check}
 use Rattle.store_core.proofs.DiskProofs.HoldLemmas.{disk_but_two, journal_beside_next, kept_same, tiers_beside_check, tiers_beside_journal, SameTiers}
 use Rattle.store_core.proofs.DiskProofs.MomentLemmas.{both_throughout}
@@ -107,9 +107,9 @@ module _ (body : Body) (bytes : List ℕ) (spelling : bytes ≡ body_bytes body)
     kept = record {
       slots =
           and_from _ _
-          (and_from _ _ (subst (λ (l : List Extent). are_placed (extents_of body 0) l ≡ true) (sym none.points) refl)
-          (subst (λ (l : List Extent). are_placed (extents_of body 1) l ≡ true) (sym none.minutes) refl))
-          (subst (λ (l : List Extent). are_placed (extents_of body 2) l ≡ true) (sym none.hours) refl);
+          (and_from _ _ (subst (λ (l : List Extent). have_slots (most_extents body 0) l ≡ true) (sym none.points) refl)
+          (subst (λ (l : List Extent). have_slots (most_extents body 1) l ≡ true) (sym none.minutes) refl))
+          (subst (λ (l : List Extent). have_slots (most_extents body 2) l ≡ true) (sym none.hours) refl);
       points = subst (λ (l : List Extent). Lie 0 (items_of body 0) (disk Tier0) l []) (sym none.points) tt;
       minutes = subst (λ (l : List Extent). Lie 1 (items_of body 1) (disk Tier1) l []) (sym none.minutes) tt;
       hours = subst (λ (l : List Extent). Lie 2 (items_of body 2) (disk Tier2) l []) (sym none.hours) tt;

@@ -12,7 +12,7 @@ use Rattle.checkpoint_body.specs.declared.body.Extent.{Extent}
 use Rattle.checkpoint_body.specs.Body.{HasSpelling}
 use Rattle.store_core.specs.disk.Holds.{items_of}
 use Rattle.store_core.specs.disk.Reading.{HasSlot}
-use Rattle.store_core.specs.disk.Slots.{are_apart, are_placed, extents_of, is_placed}
+use Rattle.store_core.specs.disk.Slots.{are_apart, have_slots, most_extents, has_own_slots}
 
 -- a tier is in the limits
 tier_within : (set : Settings) → InLimits set → (number : ℕ) → number < 3 → IsWithin (tier_with set number)
@@ -30,18 +30,18 @@ slots_low most (extent ∷ extents) small all =
     let low = leb-true extent.slot most parts.0 in
     (omega (arith, low, small), slots_low most extents small parts.1)
 
-slots_of : (body : Body) → HasSpelling body → (number : ℕ) → number < 3 → (extents : List Extent) → are_placed (extents_of body number) extents ≡ true → AllByRecursion HasSlot extents
+slots_of : (body : Body) → HasSpelling body → (number : ℕ) → number < 3 → (extents : List Extent) → have_slots (most_extents body number) extents ≡ true → AllByRecursion HasSlot extents
 slots_of body spelt number few extents placed =
-    slots_low (extents_of body number) extents (tier_within body.settings spelt.settings number few).most_extents
-    (and_parts (list_all (λ (extent : Extent). leb extent.slot (extents_of body number)) extents) (are_apart extents) placed).0
+    slots_low (most_extents body number) extents (tier_within body.settings spelt.settings number few).most_extents
+    (and_parts (list_all (λ (extent : Extent). leb extent.slot (most_extents body number)) extents) (are_apart extents) placed).0
 
-module _ (body : Body) (spelt : HasSpelling body) (placed : is_placed body ≡ true) where
-  records_placed : ((are_placed (extents_of body 0) body.points.extents && are_placed (extents_of body 1) body.minutes.extents) ≡ true) × (are_placed (extents_of body 2) body.hours.extents ≡ true)
+module _ (body : Body) (spelt : HasSpelling body) (placed : has_own_slots body ≡ true) where
+  records_placed : ((have_slots (most_extents body 0) body.points.extents && have_slots (most_extents body 1) body.minutes.extents) ≡ true) × (have_slots (most_extents body 2) body.hours.extents ≡ true)
   records_placed =
-      and_parts (are_placed (extents_of body 0) body.points.extents && are_placed (extents_of body 1) body.minutes.extents) (are_placed (extents_of body 2) body.hours.extents) placed
+      and_parts (have_slots (most_extents body 0) body.points.extents && have_slots (most_extents body 1) body.minutes.extents) (have_slots (most_extents body 2) body.hours.extents) placed
 
-  both_placed : (are_placed (extents_of body 0) body.points.extents ≡ true) × (are_placed (extents_of body 1) body.minutes.extents ≡ true)
-  both_placed = and_parts (are_placed (extents_of body 0) body.points.extents) (are_placed (extents_of body 1) body.minutes.extents) records_placed.0
+  both_placed : (have_slots (most_extents body 0) body.points.extents ≡ true) × (have_slots (most_extents body 1) body.minutes.extents ≡ true)
+  both_placed = and_parts (have_slots (most_extents body 0) body.points.extents) (have_slots (most_extents body 1) body.minutes.extents) records_placed.0
 
   pub point_slots : AllByRecursion HasSlot body.points.extents
   point_slots = slots_of body spelt 0 (omega arith) body.points.extents both_placed.0

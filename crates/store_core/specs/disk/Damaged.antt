@@ -20,7 +20,7 @@ pub record HasBadBody (disk : File → List ℕ) : Type 0 where
   pub checkpoint : checkpoint_in disk ≡ new_slot number bytes
   pub unspelt : IsNoSpelling bytes
 
--- the extents that the body names are not all there, each in a slot of its own
+-- an extent that the body names is not there, or has no slot of its own
 pub record HasBadExtent (disk : File → List ℕ) : Type 0 where
   pub number : ℕ
   pub body : Body

@@ -17,7 +17,7 @@ use Rattle.checkpoint_body.specs.declared.page.RecordPage.{RecordPage}
 use Rattle.checkpoint_body.specs.declared.page.SlotPage.{SlotPage}
 use Rattle.checkpoint_body.specs.Body.{body_bytes, HasSpelling}
 use Rattle.store_core.specs.disk.Contents.{Contents, KeptPages, new_contents, with_record}
-use Rattle.store_core.specs.disk.Slots.{is_placed}
+use Rattle.store_core.specs.disk.Slots.{has_own_slots}
 
 -- ---- the files
 
@@ -61,7 +61,7 @@ items_of body tier = (tier_with body.settings tier).items
 
 -- the extents that the body names are in slots of their own, and these are their pages
 pub record AreKept (body : Body) (kept : KeptPages) (disk : File → List ℕ) : Type 0 where
-  pub slots : is_placed body ≡ true
+  pub slots : has_own_slots body ≡ true
   pub points : Lie 0 (items_of body 0) (disk Tier0) body.points.extents (map (map page_of_slots) kept.points)
   pub minutes : Lie 1 (items_of body 1) (disk Tier1) body.minutes.extents (map (map page_of_records) kept.minutes)
   pub hours : Lie 2 (items_of body 2) (disk Tier2) body.hours.extents (map (map page_of_records) kept.hours)

@@ -16,7 +16,7 @@ use Rattle.store_core.specs.declared.disk.sealed.Sealed.{Sealed}
 use Rattle.store_core.specs.declared.disk.sealed.SlotExtent.{SlotExtent}
 use Rattle.store_core.specs.disk.Contents.{Contents, KeptPages}
 use Rattle.store_core.specs.disk.Holds.{items_of, page_of_records, page_of_slots}
-use Rattle.store_core.specs.disk.Slots.{is_placed, IsUnused}
+use Rattle.store_core.specs.disk.Slots.{has_own_slots, IsUnused}
 
 -- the slots of the page, or its records, are those of one page
 abbrev pub IsFormed : Page → Type 0
@@ -65,7 +65,8 @@ pub record GoesOn (tier : ℕ) (old : List Extent) (old_pages : List (List Page)
 -- the next checkpoint has this body and keeps these pages
 pub record IsNext (contents : Contents) (new : Sealed) (body : Body) (kept : KeptPages) : Type 0 where
   pub settings : body.settings ≡ contents.body.settings
-  pub slots : is_placed contents.body ≡ true → is_placed body ≡ true
+  -- its extents have slots of their own, where those of the checkpoint before have
+  pub slots : has_own_slots contents.body ≡ true → has_own_slots body ≡ true
   pub points : GoesOn 0 contents.body.points.extents (map (map page_of_slots) contents.kept.points) (map written_slots new.points) body.points.extents (map (map page_of_slots) kept.points)
   pub minutes : GoesOn 1 contents.body.minutes.extents (map (map page_of_records) contents.kept.minutes) (map written_records new.minutes) body.minutes.extents (map (map page_of_records) kept.minutes)
   pub hours : GoesOn 2 contents.body.hours.extents (map (map page_of_records) contents.kept.hours) (map written_records new.hours) body.hours.extents (map (map page_of_records) kept.hours)

@@ -19,16 +19,16 @@ are_apart [] = true
 are_apart (extent ∷ extents) = not (is_used extents extent.slot) && are_apart extents
 
 -- each has a slot of its own, and none is above this number
-abbrev pub are_placed : ℕ → List Extent → Bool
-are_placed most extents = list_all (λ (extent : Extent). nat_le extent.slot most) extents && are_apart extents
+abbrev pub have_slots : ℕ → List Extent → Bool
+have_slots most extents = list_all (λ (extent : Extent). nat_le extent.slot most) extents && are_apart extents
 
 -- how many extents a tier keeps
-abbrev pub extents_of : Body → ℕ → ℕ
-extents_of body tier = (tier_with body.settings tier).extents
+abbrev pub most_extents : Body → ℕ → ℕ
+most_extents body tier = (tier_with body.settings tier).extents
 
 -- The extents of each tier have slots of their own, and those of the tier: these are numbered from 0 to the number of extents
 -- that it keeps.
-abbrev pub is_placed : Body → Bool
-is_placed body =
-    are_placed (extents_of body 0) body.points.extents && are_placed (extents_of body 1) body.minutes.extents
-    && are_placed (extents_of body 2) body.hours.extents
+abbrev pub has_own_slots : Body → Bool
+has_own_slots body =
+    have_slots (most_extents body 0) body.points.extents && have_slots (most_extents body 1) body.minutes.extents
+    && have_slots (most_extents body 2) body.hours.extents

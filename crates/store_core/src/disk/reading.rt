@@ -15,11 +15,11 @@ ghost use Rattle.store_core.specs.disk.Contents.{KeptPages};
 ghost use Rattle.store_core.specs.disk.Holds.{page_of_records, page_of_slots, AreKept, LiesAs, Lie};
 ghost use Rattle.store_core.specs.disk.Kept.{pages_of, HasPagesOfEach};
 ghost use Rattle.store_core.specs.disk.Reading.{AreNamed, HasSlot, IsExtentFault, IsNamed};
-ghost use Rattle.store_core.specs.disk.Slots.{is_placed};
+ghost use Rattle.store_core.specs.disk.Slots.{has_own_slots};
 
 use crate::disk::fault::{EXTENT_PART, FilesFault};
 use crate::disk::items::{records_in, words_in};
-use crate::disk::slots::is_placed;
+use crate::disk::slots::has_own_slots;
 use crate::disk::tier::items_of;
 use checkpoint_body::{Body, Extent, RecordPage, RecordPageList, SlotPage, SlotPageList};
 use extent_file::{Extent as OpenExtent, ExtentFault, MOST_ITEMS};
@@ -398,10 +398,13 @@ pub(crate) struct Kept {
     pub(crate) hours: ListOf<RecordPageList>,
 }
 
-/// The pages of the extents that a body names, which have slots of their own.
-fn read_extents<H: Host>(alloc: Global, host: &mut H, body: &Body) -> Result<Kept, FilesFault>
-    requires spelt { HasSpelling body.now }
-    requires placed { is_placed body.now ≡ true }
+/// The pages of the extents that a body names.
+pub(crate) fn read_kept<H: Host>(
+    alloc: Global,
+    host: &mut H,
+    body: &Body,
+) -> Result<Kept, FilesFault>
+    requires { HasSpelling body.now }
     ensures kept { IfOk result (λ kept. H.honest
         → AreKept body.now (pages_of kept) (reads_as (H.seen host.old).past)) }
     ensures damaged { IsErrOf result (FilesFault.Damaged 3) → H.honest → (kept : KeptPages)
@@ -413,6 +416,9 @@ fn read_extents<H: Host>(alloc: Global, host: &mut H, body: &Body) -> Result<Kep
         (IsErrOf result FilesFault.DiskFault) }
     ensures output { (H.seen host.new).tell_faults ≡ (H.seen host.old).tell_faults }
 {
+    if !has_own_slots(body) {
+        return Err(FilesFault::Damaged(EXTENT_PART));
+    }
     let mut pool = PagePool::new(alloc);
     let points = read_points(
         alloc,
@@ -442,28 +448,4 @@ fn read_extents<H: Host>(alloc: Global, host: &mut H, body: &Body) -> Result<Kep
         minutes,
         hours,
     })
-}
-
-/// The pages of the extents that a body names.
-pub(crate) fn read_kept<H: Host>(
-    alloc: Global,
-    host: &mut H,
-    body: &Body,
-) -> Result<Kept, FilesFault>
-    requires { HasSpelling body.now }
-    ensures kept { IfOk result (λ kept. H.honest
-        → AreKept body.now (pages_of kept) (reads_as (H.seen host.old).past)) }
-    ensures damaged { IsErrOf result (FilesFault.Damaged 3) → H.honest → (kept : KeptPages)
-        → ¬ AreKept body.now kept (reads_as (H.seen host.old).past) }
-    ensures counted { IfOk result (λ kept. HasPagesOfEach body.now (pages_of kept)) }
-    ensures faults { IfErr result IsExtentFault }
-    ensures past { H.honest → (H.seen host.new).past ≡ (H.seen host.old).past }
-    ensures cause { HasCause (H.seen host.old).disk_faults (H.seen host.new).disk_faults
-        (IsErrOf result FilesFault.DiskFault) }
-    ensures output { (H.seen host.new).tell_faults ≡ (H.seen host.old).tell_faults }
-{
-    if !is_placed(body) {
-        return Err(FilesFault::Damaged(EXTENT_PART));
-    }
-    read_extents(alloc, host, body)
 }

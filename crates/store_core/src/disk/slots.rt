@@ -2,7 +2,7 @@
 
 ghost use Rattle.std.specs.Prelude.{◌≡◌, nat_le};
 ghost use Rattle.std.specs.List.{list_all};
-ghost use Rattle.store_core.specs.disk.Slots.{are_apart, are_placed, extents_of, is_placed};
+ghost use Rattle.store_core.specs.disk.Slots.{are_apart, have_slots, most_extents, has_own_slots};
 
 use crate::disk::free_slot::is_used;
 use checkpoint_body::{Body, Extent};
@@ -27,15 +27,15 @@ fn are_low(extents: &[Extent], most: u32) -> bool
     extents.iter().all(|extent| extent.slot <= most)
 }
 
-fn are_placed(extents: &[Extent], most: u32) -> bool
-    ensures { result ≡ are_placed most extents.now }
+fn have_slots(extents: &[Extent], most: u32) -> bool
+    ensures { result ≡ have_slots most extents.now }
 {
     are_low(extents, most) && are_apart(extents)
 }
 
 /// How many extents a tier keeps.
-fn extents_of(body: &Body, tier: usize) -> u32
-    ensures { result ≡ extents_of body.now tier }
+fn most_extents(body: &Body, tier: usize) -> u32
+    ensures { result ≡ most_extents body.now tier }
 {
     match body.settings.tiers.as_slice().get(tier) {
         Some(of_tier) => of_tier.extents,
@@ -44,10 +44,10 @@ fn extents_of(body: &Body, tier: usize) -> u32
 }
 
 /// Whether each extent that a body names has a slot of its own, and one of its tier.
-pub(crate) fn is_placed(body: &Body) -> bool
-    ensures { result ≡ is_placed body.now }
+pub(crate) fn has_own_slots(body: &Body) -> bool
+    ensures { result ≡ has_own_slots body.now }
 {
-    are_placed(body.points.extents.as_slice(), extents_of(body, 0))
-        && are_placed(body.minutes.extents.as_slice(), extents_of(body, 1))
-        && are_placed(body.hours.extents.as_slice(), extents_of(body, 2))
+    have_slots(body.points.extents.as_slice(), most_extents(body, 0))
+        && have_slots(body.minutes.extents.as_slice(), most_extents(body, 1))
+        && have_slots(body.hours.extents.as_slice(), most_extents(body, 2))
 }
