@@ -15,7 +15,7 @@ usage: nda COMMAND
   nda health
       stores standard input as the configuration of alarms, as in: nda health < alarms.conf
   nda log text, nda log json
-      prints the log of alarms: how many events are not shown, and the last 1,000
+      prints how many events of alarms are not shown, and the last 1,000, as in: nda log text
   nda receive ADDRESS
       waits at ADDRESS for one child and stores copies of its points: nda receive 0.0.0.0:19999
   nda send ADDRESS
