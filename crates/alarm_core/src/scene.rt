@@ -6,7 +6,6 @@ use crate::latest::Latest;
 use alarm_events::Status;
 use chart_registry::Registry;
 use health_config::Entity;
-use history::MOST_DIMENSIONS_OF_CHART;
 
 /// What an alarm of a chart sees when it is computed.
 #[derive(Drop)]
@@ -27,5 +26,5 @@ pub struct Scene<'a> {
     pub status: Status,
     ghost known: { chart < length registry.now.charts },
     ghost whole: { series.now ≡ series_of_chart registry.now chart },
-    ghost few: { length series.now ≤ MOST_DIMENSIONS_OF_CHART },
+    ghost few: { length series.now ≤ 1024 },
 }

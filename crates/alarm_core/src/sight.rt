@@ -4,7 +4,6 @@ ghost use Rattle.alarm_core.specs.Series.{series_of_chart, series_of_all};
 
 use crate::latest::Latest;
 use chart_registry::Registry;
-use history::MOST_DIMENSIONS_OF_CHART;
 use query_engine::SeriesList;
 
 /// What there is at a beat, beside the points.
@@ -24,7 +23,7 @@ impl<'a> Sight<'a> {
     pub fn series_of(&self, chart: u32) -> &'a [u32]
         requires { chart < length self.now.registry.now.charts }
         ensures series { result.now ≡ series_of_chart self.now.registry.now chart }
-        ensures few { length result.now ≤ MOST_DIMENSIONS_OF_CHART }
+        ensures few { length result.now ≤ 1024 }
     {
         let _few = self.registry.dimensions_of(chart);
         self.series[chart as usize].as_slice()
