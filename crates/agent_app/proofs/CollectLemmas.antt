@@ -114,7 +114,7 @@ module _ (honest : Type 0) (host host' : Seen) (first : honest → IsDisk host.p
     leaves = λ _. (refl, unopened-host honest host host' first why opens);
     untaken = λ h none. (refl, unopened-host honest host host' first why opens);
     others = λ h. (opens.only_here h).others;
-    bound = unopened-grows honest host host' why 0 opens;
+    bound = unopened-grows honest host host' why opens;
     spawns = omega arith;
     spawn_cause = λ is. absurd (unstarted why is);
     tell_cause = stayed host.tell_faults host'.tell_faults (opening_status why ≡ status.TellFault) opens.tells (untold-yet honest host host' first why);

@@ -216,7 +216,7 @@ module _ (honest : Type 0) (agent : AgentState) (host : Seen) (left left' : Opti
           ends = takers-end s (fault-told-takers s honest TextTooLong host.past host'.past (TellRose host host') telling);
           counts = record { tells = tells; disk = stayed host.disk_faults host'.disk_faults (s ≡ status.DiskFault) stays (fault-told-never s honest TextTooLong host.past host'.past (TellRose host host') telling) };
           others = λ h file other. fault-told-files s honest TextTooLong host.past host'.past (TellRose host host') telling h file;
-          bound = λ h. grows-before agent 0 host.past host.past host'.past (idle-grows agent host.past) (fault-told-leaves s honest TextTooLong host.past host'.past (TellRose host host') telling h);
+          bound = λ h. grows-before agent host.past host.past host'.past (idle-grows agent host.past) (fault-told-leaves s honest TextTooLong host.past host'.past (TellRose host host') telling h);
           read_cause =
               cause-as faults faults' (untaken_for end ≡ untaken_for ReadFault) (s ≡ status.ReadFault) (λ e. absurd (fault-stays s honest TextTooLong host.past host'.past (TellRose host host') telling e))
               (λ e. absurd (not-read is e)) cause;
@@ -367,7 +367,7 @@ module _ (honest : Type 0) (host : Seen) (agent : AgentState) (middle : Seen) (o
     leaves = λ none. absurd (found s none handled.ends);
     untaken = λ h none. absurd (none (opens.notes h));
     others = both-others honest host middle host' (λ h. (opens.only_here h).others) handled.others;
-    bound = λ h. opened-grows honest host middle agent 0 host'.past opens h (handled.bound h);
+    bound = λ h. opened-grows honest host middle agent host'.past opens h (handled.bound h);
     read_cause = handled.read_cause;
     tell_cause = all-counts.tells;
     disk_cause = all-counts.disk;
@@ -427,7 +427,7 @@ module _ (honest : Type 0) (host host' : Seen) (first : honest → IsDisk host.p
     leaves = λ none. unopened-leaves honest host host' first why opens left faults;
     untaken = λ h none. unopened-leaves honest host host' first why opens left faults;
     others = λ h. (opens.only_here h).others;
-    bound = unopened-grows honest host host' why 0 opens;
+    bound = unopened-grows honest host host' why opens;
     read_cause = stayed faults faults (opening_status why ≡ status.ReadFault) refl (unread honest host host' first why);
     tell_cause = stayed host.tell_faults host'.tell_faults (opening_status why ≡ status.TellFault) opens.tells (untold-yet honest host host' first why);
     disk_cause =

@@ -375,8 +375,8 @@ module _ (honest : Type 0) (agent : AgentState) (text : List ℕ) (host : Seen) 
       → Throughout (EveryCrash (Keeps set h0 (history_by h0 text (health_refusal text)) (told host.past))) host.past middle.past
   kept h set h0 is_of = stores-moments set h0 text host.past middle.past (sets.any_moment h set h0 is_of) (silent h)
 
-  sets-grow : honest → AgentGrows agent 0 host.past middle.past
-  sets-grow h = runs-grow honest 0 host middle agent agent' (health-runs honest host middle agent agent' text result sets) h
+  sets-grow : honest → AgentGrows agent host.past middle.past
+  sets-grow h = runs-grow honest host middle agent agent' (health-runs honest host middle agent agent' text result sets) h
 
   others-by : (host' : Seen) → (honest → (file : File) → of file host'.past ≡ of file middle.past) → LeavesOthers honest host host'
   others-by host' same h file other = same h file ∙ (sets.only_here h).others file other
@@ -462,7 +462,7 @@ module _ (honest : Type 0) (agent : AgentState) (text : List ℕ) (host : Seen) 
         disk = disk-by s host' stays (λ e. absurd (fault-told-never s honest why host.past host'.past (TellRose host host') telling-here e)) (λ failed. absurd (other-fault why (sym err ∙ failed)));
       };
       others = λ h file other. fault-told-files s honest why host.past host'.past (TellRose host host') telling-here h file;
-      bound = λ h. grows-before agent 0 host.past host.past host'.past (idle-grows agent host.past) (fault-told-leaves s honest why host.past host'.past (TellRose host host') telling-here h);
+      bound = λ h. grows-before agent host.past host.past host'.past (idle-grows agent host.past) (fault-told-leaves s honest why host.past host'.past (TellRose host host') telling-here h);
     }
 
   -- it is stored
@@ -514,7 +514,7 @@ module _ (honest : Type 0) (agent : AgentState) (text : List ℕ) (host : Seen) 
       statuses = tt;
       counts = record { tells = tells-by Done host' cause; disk = disk-by Done host' stays (λ e. cc) (λ failed. absurd (no-fault reply (sym ok ∙ failed))) };
       others = others-by host' (λ h file. ap (of file) (done h));
-      bound = λ h. grows-before agent 0 host.past middle.past host'.past (sets-grow h) (subst (LeavesFiles middle.past) (sym (done h)) (one-told middle.past (reply_text reply)));
+      bound = λ h. grows-before agent host.past middle.past host'.past (sets-grow h) (subst (LeavesFiles middle.past) (sym (done h)) (one-told middle.past (reply_text reply)));
     }
 
     pub cut-storing : (s : Status) → IsCutShort s honest (reply_text reply) middle.past host'.past (Rose middle.tell_faults host'.tell_faults)
@@ -532,7 +532,7 @@ module _ (honest : Type 0) (agent : AgentState) (text : List ℕ) (host : Seen) 
         disk = disk-by s host' stays (λ e. absurd (cut-stored s honest (reply_text reply) middle.past host'.past (Rose middle.tell_faults host'.tell_faults) cut e)) (λ failed. absurd (no-fault reply (sym ok ∙ failed)));
       };
       others = others-by host' (cut-leaves s honest (reply_text reply) middle.past host'.past (Rose middle.tell_faults host'.tell_faults) cut);
-      bound = λ h. grows-before agent 0 host.past middle.past host'.past (sets-grow h) (cut-written s honest (reply_text reply) middle.past host'.past (Rose middle.tell_faults host'.tell_faults) cut h);
+      bound = λ h. grows-before agent host.past middle.past host'.past (sets-grow h) (cut-written s honest (reply_text reply) middle.past host'.past (Rose middle.tell_faults host'.tell_faults) cut h);
     }
 
 -- ---- what telling that it is stored counted

@@ -28,6 +28,7 @@ use Rattle.link_session.specs.Keeps.{no_more, Keeps, LeavesFiles}
 use Rattle.link_session.proofs.AckLemmas.{acked-nothing, acked-since, text-prefix}
 use Rattle.link_session.proofs.StoreLemmas.{stands-all}
 use Rattle.agent_app.specs.declared.running.Running.{Running}
+use Rattle.agent_core.specs.Gaps.{side_share}
 use Rattle.agent_app.specs.Bound.{GrowsBy}
 use Rattle.agent_app.specs.Run.{ends_a_run, finds_none, history_with_text, is_opened, Finds, is_whole, IsAsFound, IsHostAsFound, LeavesOthers, run_every, run_output, run_reading, run_rules, run_status, HasRunCause, Resumes, Runs, RunsAll, Stores}
 use Rattle.agent_app.specs.Running.{opening_status, run_acts, Counts, DiskRose, IsRunning, TellRose}
@@ -264,7 +265,7 @@ module _ (honest : Type 0) (host host' : Seen) (first : honest → IsDisk host.p
     leaves = λ _. unopened-leaves why opens left faults;
     untaken = λ h none. unopened-leaves why opens left faults;
     others = λ h. (opens.only_here h).others;
-    bound = unopened-grows honest host host' why 0 opens;
+    bound = unopened-grows honest host host' why opens;
     read_cause = stayed faults faults (opening_status why ≡ status.ReadFault) refl (unread why);
     tell_cause = stayed host.tell_faults host'.tell_faults (opening_status why ≡ status.TellFault) opens.tells (untold-yet why);
     disk_cause =
@@ -309,7 +310,7 @@ pub record Since {H : Type 0} (honest : Type 0) (seen : H → Seen) (s : Status)
   pub ends : EndsFor honest s text source_rose (seen middle) (seen host')
   pub counts : Counts host (seen host') (s ≡ status.TellFault) (s ≡ status.DiskFault)
   pub others : LeavesOthers honest host (seen host')
-  pub bound : honest → GrowsBy 0 host.past (seen host').past
+  pub bound : honest → GrowsBy host.past (seen host').past
   pub stops : (h : honest) (set : Settings) (h0 : List Beat) → EveryDisk (StandsForHistory set h0) host.past
       → Over honest seen h every set h0 host.past s ended text left (seen host').past source_rose (TellRose host (seen host')) (DiskRose host (seen host'))
   -- once the database was read a crash leaves the history that the disk reads as
@@ -393,10 +394,10 @@ module _ {H : Type 0} (honest : Type 0) (seen : H → Seen) (host : Seen) (agent
         ends = for-all;
         counts = both-counts host (seen middle) (seen host') (s ≡ status.TellFault) (s ≡ status.DiskFault) opening for-all.counts;
         others = both-others honest host (seen middle) (seen host') (λ h. (opens.only_here h).others) for-all.others;
-        bound = λ h set h0 here limit fits.
-            ends-behind set limit host.past (seen middle).past (seen host').past (opens.bound (share set limit) h)
+        bound = λ h set h0 here.
+            ends-behind set (side_share set) host.past (seen middle).past (seen host').past (opens.bound (share set (side_share set)) h)
             (run-grows honest seen h every set h0 (seen middle).past s running middle (begins-read h set h0 here) text left source_rose running' host' how set h0
-            (subst (λ (a : AgentState). IsAgentOf (seen middle).past a set h0) (sym agent-is) (opens.opened h set h0 here)) limit fits);
+            (subst (λ (a : AgentState). IsAgentOf (seen middle).past a set h0) (sym agent-is) (opens.opened h set h0 here)));
         stops = λ h set h0 stands. over-since h set h0 host.past (begins-so h set h0 stands);
         stands = stands-now;
         resumes = λ h set h0 here. over-since h set h0 (seen middle).past (begins-read h set h0 here);

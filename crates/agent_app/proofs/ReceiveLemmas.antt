@@ -35,7 +35,6 @@ use Rattle.link_session.specs.Keeps.{Extends, IsAckedUpTo, Keeps, LeavesFiles, n
 use Rattle.link_session.specs.Parent.{done_with, parent_begins, parent_does}
 use Rattle.link_session.specs.Receiving.{is_spent_by, keeps_all, AnswersStored, AreTrueOf, Copies, FailsAtData, HasStored, ReceivesHistory}
 use Rattle.link_session.specs.Session.{says_all, IsEndFor, LinkSeen}
-use Rattle.link_session.specs.Steps.{data_in}
 use Rattle.link_session.proofs.AckLemmas.{acked-more, acked-since, acked-weaker}
 use Rattle.link_session.proofs.LinkLemmas.{all-sends, sends-nothing}
 use Rattle.link_session.proofs.ExtendsLemmas.{extends-further, extends-length}
@@ -43,7 +42,7 @@ use Rattle.link_session.proofs.CopyLemmas.{crashes-copy}
 use Rattle.link_session.proofs.LeavesLemmas.{leaves-further, leaves-nothing, may-told, one-told}
 use Rattle.link_session.proofs.LastLemmas.{told-some}
 use Rattle.link_session.proofs.StoreLemmas.{keeps-more, stands-all}
-use Rattle.agent_app.specs.Bound.{GrowsByData}
+use Rattle.agent_app.specs.Bound.{GrowsBy}
 use Rattle.agent_app.specs.Convert.{is_limit, refusal_line, refusal_status}
 use Rattle.agent_app.specs.Receive.{ends_a_receive, last_line, Closes, EndsAs, HoldsCopy, Receives, ReceivesAll, ReceivesOn, TellsWhy}
 use Rattle.agent_app.specs.Run.{finds_none, is_whole, LeavesOthers, OnceRead}
@@ -608,19 +607,9 @@ module _ (honest : Type 0) (host : Seen) (agent : AgentState) (middle : Seen) (o
         by (inl (other, is, same)) = subst (λ (p : Seen). LeavesFiles late.past p.past) (sym same) (leaves-nothing late.past)
         by (inr (why, (is, tells))) = refusal-written s honest 0 (refusal.Block why) late.past host'.past (TellRose late host') tells.tells h
 
-    grows-so : honest → GrowsByData link link' host.past host'.past
+    grows-so : honest → GrowsBy host.past host'.past
     grows-so h =
-        let taking = receives.taking in
-        let added = length (data_in taking.frames) in
-        record {
-          taken = taking.taken;
-          takes = taking.takes;
-          within = taking.within;
-          frames = taking.frames;
-          rest = taking.rest;
-          cut = taking.cut;
-          grows = opened-grows honest host middle agent added host'.past opens h (grows-before agent added middle.past late.past host'.past (runs-grow honest added middle late agent agent' receives.bound h) (closed-leaves h));
-        }
+        opened-grows honest host middle agent host'.past opens h (grows-before agent middle.past late.past host'.past (runs-grow honest middle late agent agent' receives.bound h) (closed-leaves h))
 
     pub opened-receives : ReceivesAll honest s link link' host host'
     opened-receives = record {
@@ -725,15 +714,7 @@ module _ (honest : Type 0) (host host' : Seen) (first : honest → IsDisk host.p
     leaves = λ none. (refl, unopened-host honest host host' first why opens);
     untaken = λ h none. (refl, unopened-host honest host host' first why opens);
     others = λ h. (opens.only_here h).others;
-    bound = λ h. record {
-      taken = [];
-      takes = Takes-none link.left;
-      within = omega arith;
-      frames = [];
-      rest = [];
-      cut = record { found = []; handed = refl; frames = tt; spelt = refl };
-      grows = unopened-grows honest host host' why 0 opens h;
-    };
+    bound = unopened-grows honest host host' why opens;
     link_cause = unheard-link;
     tell_cause = unheard-tell;
     disk_cause = unheard-disk;

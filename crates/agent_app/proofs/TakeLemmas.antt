@@ -177,7 +177,7 @@ module _ (honest : Type 0) (running : Running) (host : Seen) (number : ℕ) (byt
     counts = ended-counts host host' status (told-counts host host' (status ≡ TellFault) (status ≡ DiskFault) cause same (refusal-stored status honest number why host.past host'.past (TellRose host host') telling));
     others = λ h file other. at_end (refusal-leaves status honest number why host.past host'.past (TellRose host host') telling h) file;
     bound = λ h every set h0 prefix start going.
-        subst (λ (a : AgentState). RunsWithin honest 0 host running.agent host' a) (sym same-agent) (refusal-runs honest host host' running.agent status number why (TellRose host host') telling);
+        subst (λ (a : AgentState). RunsWithin honest host running.agent host' a) (sym same-agent) (refusal-runs honest host host' running.agent status number why (TellRose host host') telling);
   }
 
   -- there was no memory to read it
@@ -219,7 +219,7 @@ module _ (honest : Type 0) (running : Running) (host : Seen) (number : ℕ) (byt
     lined-ok : (reply : Said) → result ≡ Ok reply → Counts host middle ⊥ ⊥
     lined-ok reply ok = record { tells = lined-tell ⊥ (λ never. never); disk = lined-disk ⊥ (λ never. absurd never) (λ failed. cc) }
 
-    lined-runs : honest → (every : ℕ) (set : Settings) (h0 : List Beat) (prefix : List (List ℕ)) (start : List Event) → IsRunning host.past running every set h0 prefix start → RunsWithin honest 0 host running.agent middle agent
+    lined-runs : honest → (every : ℕ) (set : Settings) (h0 : List Beat) (prefix : List (List ℕ)) (start : List Event) → IsRunning host.past running every set h0 prefix start → RunsWithin honest host running.agent middle agent
     lined-runs h every set h0 prefix start going =
         line-runs honest host middle running.agent agent running.feed feed said result every going.read going.at.feed (counts-at running.feed running.agent.registry said going.at.counts) lined
 
@@ -425,7 +425,7 @@ module _ (honest : Type 0) (running : Running) (host : Seen) (number : ℕ) (byt
         statuses = tt;
         counts = both-counts host middle host' (went_on ≡ ended_so TellFault) (went_on ≡ ended_so DiskFault) (lined-ok reply ok) counts;
         others = λ h file other. ap (of file) (telling h) ∙ lined-others h file other;
-        bound = λ h every set h0 prefix start going. runs-both honest 0 0 host middle host' running.agent agent agent (lined-runs h every set h0 prefix start going) (runs-told honest middle host' agent next telling);
+        bound = λ h every set h0 prefix start going. runs-both honest host middle host' running.agent agent agent (lined-runs h every set h0 prefix start going) (runs-told honest middle host' agent next telling);
       }
 
       told-err : (status : Status) (host' : Seen) → IsCutShort status honest next middle.past host'.past (Rose middle.tell_faults host'.tell_faults)
@@ -450,7 +450,7 @@ module _ (honest : Type 0) (running : Running) (host : Seen) (number : ℕ) (byt
             counts = both-counts host middle host' (ended_so status ≡ ended_so TellFault) (ended_so status ≡ ended_so DiskFault) (lined-ok reply ok) counts;
             others = λ h file other. at_end (cut-leaves status honest next middle.past host'.past (TellRose host host') cut' h) file ∙ lined-others h file other;
             bound = λ h every set h0 prefix start going.
-                runs-both honest 0 0 host middle host' running.agent agent agent (lined-runs h every set h0 prefix start going) (cut-runs honest middle host' agent status next (TellRose host host') cut');
+                runs-both honest host middle host' running.agent agent agent (lined-runs h every set h0 prefix start going) (cut-runs honest middle host' agent status next (TellRose host host') cut');
           }
 
       pub told-line : (answered : Result (Unit {0}) Status) (host' : Seen) → OnOk answered (honest → host'.past ≡ Told next ∷ middle.past)

@@ -188,7 +188,7 @@ pub record CollectsAll (honest : Type 0) (asked : Collector) (status : Status) (
   pub untaken : honest → (NotesGo true (reads_as host.past) → ⊥) → IsUncollected honest outside outside' host host'
   pub others : LeavesOthers honest host host'
   -- each file of the database stays within its share
-  pub bound : honest → GrowsBy 0 host.past host'.past
+  pub bound : honest → GrowsBy host.past host'.past
   -- each part of the outside counts a failure where that is why it ended
   pub spawns : outside.spawn_faults ≤ outside'.spawn_faults
   pub spawn_cause : status ≡ SpawnFault → Rose outside.spawn_faults outside'.spawn_faults

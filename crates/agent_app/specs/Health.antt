@@ -169,7 +169,7 @@ pub record ConfiguresAll (honest : Type 0) (status : Status) (left left' : Optio
   pub untaken : honest → (NotesGo true (reads_as host.past) → ⊥) → IsAsFound honest left left' source_faults source_faults' host host'
   pub others : LeavesOthers honest host host'
   -- each file of the database stays within its share
-  pub bound : honest → GrowsBy 0 host.past host'.past
+  pub bound : honest → GrowsBy host.past host'.past
   -- each part of the outside counts a failure exactly where that is why it ended
   pub read_cause : HasCause source_faults source_faults' (status ≡ ReadFault)
   pub tell_cause : HasCause host.tell_faults host'.tell_faults (status ≡ TellFault)
@@ -191,7 +191,7 @@ pub record StoresHealth (honest : Type 0) (agent : AgentState) (text : List ℕ)
   pub statuses : IsTakers status
   pub counts : Counts host host' (status ≡ TellFault) (status ≡ DiskFault)
   pub others : LeavesOthers honest host host'
-  pub bound : honest → AgentGrows agent 0 host.past host'.past
+  pub bound : honest → AgentGrows agent host.past host'.past
 
 -- an agent was handed the text of a source
 pub record Handled (honest : Type 0) (agent : AgentState) (status : Status) (left left' : Option (List ℕ)) (source_faults source_faults' : ℕ) (host host' : Seen) : Type 0 where
@@ -208,5 +208,5 @@ pub record Handled (honest : Type 0) (agent : AgentState) (status : Status) (lef
   pub ends : ends_health status ≡ true
   pub counts : Counts host host' (status ≡ TellFault) (status ≡ DiskFault)
   pub others : LeavesOthers honest host host'
-  pub bound : honest → AgentGrows agent 0 host.past host'.past
+  pub bound : honest → AgentGrows agent host.past host'.past
   pub read_cause : HasCause source_faults source_faults' (status ≡ ReadFault)

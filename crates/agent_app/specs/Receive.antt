@@ -24,7 +24,7 @@ use Rattle.link_session.specs.Parent.{done_with, parent_begins, parent_does}
 use Rattle.link_session.specs.Receiving.{AnswersStored, AreTrueOf, FailsAtData, HasStored}
 use Rattle.link_session.specs.Session.{Exchanges, LinkSeen}
 use Rattle.link_session.specs.Taking.{ParentEndsAt}
-use Rattle.agent_app.specs.Bound.{GrowsByData}
+use Rattle.agent_app.specs.Bound.{GrowsBy}
 use Rattle.agent_app.specs.Convert.{refusal_line, refusal_status}
 use Rattle.agent_app.specs.Run.{finds_none, is_whole, Finds, IsHostAsFound, LeavesOthers, OnceRead, TellsRun}
 use Rattle.agent_app.specs.Running.{TellRose, TellsRefusal}
@@ -123,7 +123,7 @@ pub record ReceivesAll (honest : Type 0) (status : Status) (link link' : LinkSee
   pub untaken : honest → (NotesGo true (reads_as host.past) → ⊥) → (link' ≡ link) × IsHostAsFound honest host host'
   pub others : LeavesOthers honest host host'
   -- each file of the database stays within its share
-  pub bound : honest → GrowsByData link link' host.past host'.past
+  pub bound : honest → GrowsBy host.past host'.past
   -- each part of the outside counts a failure exactly where that is why it ended
   pub link_cause : HasCause link.faults link'.faults (status ≡ LinkFault)
   pub tell_cause : HasCause host.tell_faults host'.tell_faults (status ≡ TellFault)

@@ -265,7 +265,7 @@ pub record RunsAll (honest : Type 0) (status : Status) (left left' : Option (Lis
   -- whatever status it ended with
   pub others : LeavesOthers honest host host'
   -- each file of the database stays within its share
-  pub bound : honest → GrowsBy 0 host.past host'.past
+  pub bound : honest → GrowsBy host.past host'.past
   -- each part of the outside counts a failure exactly where that is why the run ended
   pub read_cause : HasCause source_faults source_faults' (status ≡ ReadFault)
   pub tell_cause : HasCause host.tell_faults host'.tell_faults (status ≡ TellFault)

@@ -105,7 +105,7 @@ pub record TakesLine (honest : Type 0) (running : Running) (host : Seen) (number
   pub counts : Counts host host' (IsErrOf result TellFault) (IsErrOf result DiskFault)
   pub others : LeavesOthers honest host host'
   -- it adds no gap, and each file of the database stays within its share
-  pub bound : honest → (every : ℕ) (set : Settings) (h0 : List Beat) (prefix : List (List ℕ)) (start : List Event) → IsRunning host.past running every set h0 prefix start → RunsWithin honest 0 host running.agent host' running'.agent
+  pub bound : honest → (every : ℕ) (set : Settings) (h0 : List Beat) (prefix : List (List ℕ)) (start : List Event) → IsRunning host.past running every set h0 prefix start → RunsWithin honest host running.agent host' running'.agent
 
 -- nothing is done where the lines of a piece are over
 abbrev pub Pauses : {T H : Type 0} → T → H → Result (Unit {0}) Status → T → H → Type 0

@@ -213,10 +213,8 @@ pub fn agent_main<S: Source, H: Host, L: Link, P: Spawner, C: Clock>(
         source.new ≡ source.old }
 
     // Where each file was within its share, it is so at every moment.
-    ensures bound { H.honest → StaysBy (command_of words.now)
-        (link_seen (L.sent link.old) (L.left link.old) (L.faults link.old))
-        (link_seen (L.sent link.new) (L.left link.new) (L.faults link.new))
-        (H.seen host.old).past (H.seen host.new).past }
+    ensures bound { H.honest
+        → StaysBy (command_of words.now) (H.seen host.old).past (H.seen host.new).past }
 {
     match Command::read(alloc, words) {
         Err(_) => Status::Memory,

@@ -8,7 +8,8 @@ use Rattle.host_model.proofs.MomentLemmas.{at_end, joined}
 use Rattle.history.specs.History.{Beat}
 use Rattle.alarm_core.specs.Course.{held, Held}
 use Rattle.alarm_core.specs.Kept.{kept}
-use Rattle.side_codec.specs.Size.{KeepLimits}
+use Rattle.side_codec.specs.Size.{KeepLimits, side_limit}
+use Rattle.side_codec.specs.declared.gap.GapSpan.{GapSpan}
 use Rattle.tier_settings.specs.declared.settings.Settings.{Settings}
 use Rattle.store_core.specs.declared.beats.beat.Beat.{Beat as StoreBeat}
 use Rattle.store_core.specs.disk.Shares.{share, IsWithin}
@@ -17,12 +18,16 @@ use Rattle.store_core.specs.Store.{IsStoreOf, StoreState}
 use Rattle.store_core.specs.Stored.{advanced, is_numbered, next_base, stored_with, Stored}
 use Rattle.store_core.proofs.AdvanceLemmas.{same-number}
 use Rattle.store_core.proofs.StandLemmas.{images-at}
+use Rattle.agent_core.specs.Answers.{floor_of_history, tier_beats}
+use Rattle.agent_core.specs.Gaps.{side_share, gaps_above}
 use Rattle.agent_core.specs.declared.left.Left.{Left}
 use Rattle.agent_core.specs.Bound.{GrowsWithin, HasReached}
 use Rattle.agent_core.specs.Left.{IsLeftBy}
 use Rattle.agent_core.specs.Stands.{HoldsHistory}
 use Rattle.agent_core.proofs.AlarmTexts.{texts-of}
-use Rattle.agent_core.proofs.StoredLemmas.{settings-of, were_kept}
+use Rattle.agent_core.proofs.GapCounts.{few-gaps}
+use Rattle.agent_core.proofs.GapLemmas.{first-tier, gaps-written}
+use Rattle.agent_core.proofs.StoredLemmas.{applied-all, settings-of, were_kept}
 
 pub below-most : (low high most : ℕ) → low ≤ high → nat_lt high most ≡ true → nat_lt low most ≡ true
 below-most low high most less numbered = let under = ltb-true high most numbered in lt-ltb low most (omega (arith, less, under))
@@ -127,3 +132,13 @@ pub left-texts : (past : List Event) (store : StoreState) (set : Settings) (h : 
 left-texts past store set h holds left is =
     let all = were_kept set h holds.stored holds.are in
     subst (λ (one : Held). KeepLimits (kept one)) (sym is.alarms_are) (texts-of set h all.beats all.are)
+
+-- ---- the side
+-- what is written of what beats left has at most so many gaps
+pub side-fits : (past : List Event) (store : StoreState) (set : Settings) (h : List Beat) → HoldsHistory past store set h → (left : Left) → IsLeftBy set h left → (floor : ℕ) → floor ≡ floor_of_history set h 0
+    → (size limit : ℕ) → size ≤ side_limit (length (gaps_above floor left.gaps)) → side_share set ≤ limit → size ≤ limit
+side-fits past store set h holds left by floor floor_is size limit short fits =
+    let all = were_kept set h holds.stored holds.are in
+    let written = ap (λ (gaps : List GapSpan). length gaps) (gaps-written set h left.gaps floor floor_is by.gaps_are) in
+    let few = few-gaps set h all.beats all.are (first-tier set (tier_beats h) store (applied-all past store set h holds)) in
+    omega (arith, short, written, few, fits)

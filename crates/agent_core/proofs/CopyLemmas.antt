@@ -221,7 +221,7 @@ module _ (number : ℕ) (registry : Registry) (names : Names) where
   made = after registry names
 
   -- the beat has a word by number
-  abbrev HasWords : SentBeat → Type 0
+  abbrev pub HasWords : SentBeat → Type 0
   HasWords beat = numbered_words made (points registry names beat) ≡ [] → ⊥
 
   -- the history after these beats
@@ -281,7 +281,7 @@ module _ (h : List Beat) (message : Data) (data_is : IsData message) where
   abbrev gap : List Span
   gap = gap_between message.prev message.from
 
-  all-words : (beats : List SentBeat) → AllByRecursion (λ (beat : SentBeat). AreOfSeries (length message.names.dimensions) beat.words) beats → AllByRecursion (λ (beat : SentBeat). 0 < length beat.words) beats
+  pub all-words : (beats : List SentBeat) → AllByRecursion (λ (beat : SentBeat). AreOfSeries (length message.names.dimensions) beat.words) beats → AllByRecursion (λ (beat : SentBeat). 0 < length beat.words) beats
       → AllByRecursion (HasWords message.child before message.names) beats
   all-words [] series some = tt
   all-words (beat ∷ beats) series some =

@@ -13,7 +13,7 @@ join-last [] last others gap = refl
 join-last (first ∷ []) last others gap = refl
 join-last (first ∷ next ∷ before) last others gap = ap (λ (rest : List GapSpan). first ∷ rest) (join-last (next ∷ before) last others gap)
 
-abbrev EndBefore : ℕ → List GapSpan → Type 0
+abbrev pub EndBefore : ℕ → List GapSpan → Type 0
 EndBefore moment gaps = AllByRecursion (λ (gap : GapSpan). gap.to < moment) gaps
 
 -- where all end before it begins, it meets none

@@ -14,6 +14,7 @@ pub mod FloorLemmas
 pub mod FollowLemmas
 pub mod FormLemmas
 pub mod PrefixLemmas
+pub mod GapCounts
 pub mod GapLemmas
 pub mod GapLists
 pub mod GoingOnLemmas

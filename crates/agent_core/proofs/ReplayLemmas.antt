@@ -1,5 +1,5 @@
 -- A kept beat has an entry that goes on from what is before it, and leaves what the beat leaves.
-use Rattle.std.proofs.Common.{◌≡◌, ◌<◌, ◌⊎◌, inl, inr, lt-ltb, true, false, ◌&&◌, nat_lt, List, ◌∷◌, length, map, Option, Some, is_none, refl, sym, ap, ◌∙◌, subst, true≢false}
+use Rattle.std.proofs.Common.{◌≡◌, ◌<◌, ◌⊎◌, inl, inr, lt-ltb, true, false, ◌&&◌, nat_lt, List, ◌∷◌, length, map, Option, Some, is_none, refl, sym, ap, ◌∙◌, subst, true≢false, arith}
 use Rattle.std.proofs.lemmas.Bool.{not-false}
 use Rattle.std.proofs.lemmas.List.Elements.{recursion_from_All}
 use Rattle.std.proofs.lemmas.Option.{same_Some}
@@ -152,7 +152,7 @@ gaps-taken : (set : Settings) (g : List Beat) (beats : List StoreBeat) (beat : B
 gaps-taken set g beats (collected moment beat) kept left is_tier are of was = gaps-stay set g beats are (collected moment beat) (beat-later g (collected moment beat) kept of) left refl was
 gaps-taken set g beats (copied copy) kept left is_tier are of was = gaps-stay set g beats are (copied copy) (beat-later g (copied copy) kept of) left refl was
 gaps-taken set g beats (health text) kept left is_tier are of was = health-stays set g text left was
-gaps-taken set g beats (missing gap) kept left is_tier are of was = gap-joins set g beats are is_tier gap of.from of.later left was
+gaps-taken set g beats (missing gap) kept left is_tier are of was = gap-joins set g beats are is_tier gap (let at = of.from in omega (arith, at)) of.later left was
 
 -- what was left has the registry and the role of its history
 pub noted-is : (set : Settings) (g : List Beat) (left : Left) → IsLeftBy set g left → noted_in left ≡ noted_of g

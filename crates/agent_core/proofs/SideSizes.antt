@@ -1,5 +1,5 @@
 -- How many bytes the side has that an agent writes, by the gaps that it has.
-use Rattle.std.proofs.Common.{◌≡◌, ℕ, ◌+◌, ◌≤◌, ◌==◌, Bool, true, false, cond, nat_lt, List, [], ◌∷◌, length, sym, ap, subst, arith, le_refl, length-append}
+use Rattle.std.proofs.Common.{◌≡◌, ℕ, ◌≤◌, Bool, true, false, cond, nat_lt, List, [], ◌∷◌, length, sym, ap, subst, arith, le_refl, length-append}
 use Rattle.history.specs.History.{Beat}
 use Rattle.alarm_core.specs.Course.{held, Held}
 use Rattle.alarm_core.specs.Kept.{kept}
@@ -10,7 +10,7 @@ use Rattle.side_codec.specs.Size.{side_limit, KeepLimits}
 use Rattle.side_codec.proofs.SizeLaws.{side-within}
 use Rattle.tier_settings.specs.declared.settings.Settings.{Settings}
 use Rattle.agent_core.specs.declared.left.Left.{Left}
-use Rattle.agent_core.specs.Gaps.{gaps_above, gaps_of, join_gap, AreGapsLeft}
+use Rattle.agent_core.specs.Gaps.{gaps_above, gaps_of, AreGapsLeft}
 use Rattle.agent_core.specs.Left.{IsLeftBy}
 use Rattle.agent_core.specs.Sides.{side_by}
 use Rattle.agent_core.proofs.AlarmTexts.{texts-of}
@@ -24,34 +24,21 @@ above-fewer floor (gap ∷ others) = by (nat_lt gap.to floor) (above-fewer floor
     by true fewer = omega (arith, fewer)
     by false fewer = le_refl (length (gap ∷ others))
 
--- one more makes at most one more
-pub joined-few : (gaps : List GapSpan) (gap : GapSpan) → length (join_gap gaps gap) ≤ length gaps + 1
-joined-few [] gap = omega arith
-joined-few (last ∷ []) gap = by (last.to == gap.from)
-  where
-    met : GapSpan
-    met = record { from = last.from; to = gap.to }
-
-    by : (b : Bool) → length (cond b (met ∷ []) (last ∷ gap ∷ [])) ≤ 2
-    by true = omega arith
-    by false = omega arith
-joined-few (first ∷ next ∷ others) gap = let few = joined-few (next ∷ others) gap in omega (arith, few)
-
 -- those that a history left are no more than it has
-pub left-few : (set : Settings) (h : List Beat) (left : List GapSpan) → AreGapsLeft set h left → length left ≤ length (gaps_of h)
+left-few : (set : Settings) (h : List Beat) (left : List GapSpan) → AreGapsLeft set h left → length left ≤ length (gaps_of h)
 left-few set h left are = omega (arith, ap length are.whole, length-append are.dropped left)
 
-pub side-short : (floor : ℕ) (left : Left) (side : Side) → side ≡ side_by floor left → HasSpelling side → KeepLimits (kept (held left.alarms)) → length (side_bytes side) ≤ side_limit (length left.gaps)
+pub side-short : (floor : ℕ) (left : Left) (side : Side) → side ≡ side_by floor left → HasSpelling side → KeepLimits (kept (held left.alarms)) → length (side_bytes side) ≤ side_limit (length (gaps_above floor left.gaps))
 unfolding side_by
 side-short floor left side is spelt keep =
-    let fewer = above-fewer floor left.gaps in
     let size = side-within side spelt (subst (λ (s : Side). KeepLimits s.alarms) (sym is) keep) in
     let same : length side.gaps ≡ length (gaps_above floor left.gaps) = ap (λ (s : Side). length s.gaps) is in
-    omega (arith, fewer, size, same)
+    omega (arith, size, same)
 
 -- the side of a history without beats
-pub new-short : (set : Settings) (left : Left) → IsLeftBy set [] left → (side : List ℕ) → (KeepLimits (kept (held left.alarms)) → length side ≤ side_limit (length left.gaps)) → (limit : ℕ) → side_limit 0 ≤ limit → length side ≤ limit
-new-short set left is side size limit fits =
+pub new-short : (set : Settings) (left : Left) (floor : ℕ) → IsLeftBy set [] left → (side : List ℕ) → (KeepLimits (kept (held left.alarms)) → length side ≤ side_limit (length (gaps_above floor left.gaps))) → (limit : ℕ) → side_limit 0 ≤ limit → length side ≤ limit
+new-short set left floor is side size limit fits =
     let none = left-few set [] left.gaps is.gaps_are in
     let short = size (subst (λ (one : Held). KeepLimits (kept one)) (sym is.alarms_are) (texts-of set [] [] tt)) in
-    omega (arith, none, short, fits)
+    let fewer = above-fewer floor left.gaps in
+    omega (arith, none, fewer, short, fits)

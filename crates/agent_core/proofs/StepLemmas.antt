@@ -1,5 +1,5 @@
 -- What an agent does with each step of a feed, and with a line that leads to no step.
-use Rattle.std.proofs.Common.{◌≡◌, ◌≢◌, ◌⊎◌, ◌≤◌, ℕ, length, inl, inr, Bool, true, List, Option, Some, None, Result, Ok, Err, IfOk, OnOk, refl, sym, ap, ◌∙◌, subst, le_refl}
+use Rattle.std.proofs.Common.{◌≡◌, ◌≢◌, ◌⊎◌, ◌≤◌, ℕ, inl, inr, Bool, true, List, Option, Some, None, Result, Ok, Err, IfOk, OnOk, refl, sym, ap, ◌∙◌, subst, le_refl}
 use Rattle.std.specs.Option.{option_map_or}
 use Rattle.std.proofs.lemmas.Option.{none-some}
 use Rattle.host_model.specs.Disks.{EveryDisk}
@@ -18,11 +18,11 @@ use Rattle.collect_block.specs.declared.step.Step.{Step}
 use Rattle.collect_block.specs.declared.step.Step.TheVariants as step
 use Rattle.collect_block.specs.Feed.{step_of, Becomes, CountsAt, CountsFor, CountsPast, IsFeedOf}
 use Rattle.collect_block.specs.Feed as block_feed
-use Rattle.side_codec.specs.Size.{side_limit}
 use Rattle.tier_settings.specs.declared.settings.Settings.{Settings}
 use Rattle.store_core.specs.declared.fault.Why.{Why}
 use Rattle.store_core.specs.declared.fault.Why.TheVariants as why
 use Rattle.store_core.specs.disk.Holds.{OnlyOwn}
+use Rattle.agent_core.specs.Gaps.{side_share}
 use Rattle.agent_core.specs.declared.fault.AgentFault.{AgentFault}
 use Rattle.agent_core.specs.declared.fault.AgentFault.TheVariants.{Refused, DiskFault, Reopen, Memory}
 use Rattle.agent_core.specs.declared.reply.Reply.{Reply}
@@ -139,7 +139,7 @@ module _ (honest : Type 0) (host host' : Seen) (agent agent' : AgentState) (text
   asked-here : (honest → host'.past ≡ host.past) → honest → OnlyOwn host.past host'.past
   asked-here quiet true_host = subst (OnlyOwn host.past) (sym (quiet true_host)) (record { others = λ other far. refl; output = refl })
 
-  asked-within : (honest → host'.past ≡ host.past) → agent'.store ≡ agent.store → honest → (set : Settings) (h : List Beat) → IsAgentOf host.past agent set h → (limit : ℕ) → side_limit (length agent.gaps) ≤ limit
+  asked-within : (honest → host'.past ≡ host.past) → agent'.store ≡ agent.store → honest → (set : Settings) (h : List Beat) → IsAgentOf host.past agent set h → (limit : ℕ) → side_share set ≤ limit
       → GrowsWithin set limit host.past agent.store host'.past agent'.store
   asked-within quiet same true_host set h is_of limit fits = grows-still set limit host.past host'.past agent.store agent'.store (quiet true_host) same
 

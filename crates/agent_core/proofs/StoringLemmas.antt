@@ -58,10 +58,10 @@ gap-spelt gap child from to = record { short = record { child = child; from = fr
 
 -- what is kept of a gap that may follow the history
 pub gap-of : (past : List Event) (store : StoreState) (set : Settings) (h : List Beat) → HoldsHistory past store set h → (gap : Gap) (kept : StoreBeat) → kept ≡ record { moment = Some gap.to; points = []; note = entry_bytes (gap_entry gap) }
-    → HasSpelling (gap_entry gap) → may_copy (role_of h) ≡ true → store.tiers.last ≤ gap.from → store.tiers.last < gap.to → IsGapOf h gap kept
-gap-of past store set h holds gap kept is_kept spelt role from later =
+    → HasSpelling (gap_entry gap) → may_copy (role_of h) ≡ true → gap.from ≡ store.tiers.last → store.tiers.last < gap.to → IsGapOf h gap kept
+gap-of past store set h holds gap kept is_kept spelt role at later =
     let last_is = store-last past store set h holds in
-    record { role = role; from = omega (arith, last_is, from); later = omega (arith, last_is, later); is_kept = is_kept; spelt = spelt }
+    record { role = role; from = omega (arith, last_is, at); later = omega (arith, last_is, later); is_kept = is_kept; spelt = spelt }
 
 -- ---- a copied beat
 

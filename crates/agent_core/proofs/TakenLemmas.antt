@@ -29,6 +29,7 @@ use Rattle.beat_entries.specs.Following.{AreOwned, MayFollow}
 use Rattle.beat_entries.proofs.FollowLemmas.{all-places}
 use Rattle.beat_entries.proofs.Gathering.{all-gathered}
 use Rattle.beat_entries.proofs.Slots.{none-all}
+use Rattle.replication.specs.declared.beats.Beat.{Beat as SentBeat}
 use Rattle.replication.specs.declared.gap.Gap.{Gap as Span}
 use Rattle.replication.specs.declared.message.Data.{Data}
 use Rattle.replication.specs.declared.named.NamedBeat.{NamedBeat}
@@ -48,6 +49,7 @@ use Rattle.agent_core.specs.Kept.{onto}
 use Rattle.agent_core.specs.Roles.{may_copy, role_of}
 use Rattle.agent_core.specs.Storing.{MayTake, MayTakeAll}
 use Rattle.agent_core.specs.Rules.{changes_grid, changes_grid_of, lacks_chart, too_many_charts, too_many_dimensions, IsOpenBeat}
+use Rattle.agent_core.proofs.CopyLemmas.{all-words, HasWords}
 use Rattle.agent_core.proofs.FollowLemmas.{keeps, KeepsGrid}
 use Rattle.beat_entries.proofs.Within.{within-after}
 use Rattle.agent_core.proofs.Within.{names-tests}
@@ -265,13 +267,21 @@ take-at : (g before : List Beat) (beat : Beat) (rest : List Beat) → MayTakeAll
 take-at g [] beat rest all = all.0
 take-at g (first ∷ before) beat rest all = take-at (first ∷ g) before beat rest all.1
 
+-- each has a word by the numbers of a registry
+abbrev HaveWords : Registry → List NamedBeat → Type 0
+HaveWords r beats = AllByRecursion (λ (beat : NamedBeat). 0 < length (numbered_words r beat.points)) beats
+
+some-length : {X : Type 0} (xs : List X) → (xs ≡ [] → ⊥) → 0 < length xs
+some-length [] some = absurd (some refl)
+some-length (x ∷ xs) some = omega arith
+
 -- beats without definitions, where the registry has what they name
-later-follow : (number : ℕ) (r : Registry) (g : List Beat) (beats : List NamedBeat) → IsWithin r → registry_of g ≡ r → may_copy (role_of g) ≡ true → RisesFrom named_moment (last g) beats
+later-follow : (number : ℕ) (r : Registry) (g : List Beat) (beats : List NamedBeat) → IsWithin r → registry_of g ≡ r → may_copy (role_of g) ≡ true → HaveWords r beats → RisesFrom named_moment (last g) beats
     → MayTakeAll g (map (copied_of number r nothing_defined) beats)
-later-follow number r g [] within is role rises = tt
-later-follow number r g (beat ∷ beats) within is role rises = (
-  record { role = role; later = rises.0; may = may },
-  later-follow number r (copied_of number r nothing_defined beat ∷ g) beats within is refl rises.1,
+later-follow number r g [] within is role some rises = tt
+later-follow number r g (beat ∷ beats) within is role some rises = (
+  record { role = role; later = rises.0; some = some.0; may = may },
+  later-follow number r (copied_of number r nothing_defined beat ∷ g) beats within is refl some.1 rises.1,
 )
   where
     now : IsWithin (registry_of g)
@@ -304,14 +314,26 @@ module _ (h : List Beat) (message : Data) (within : IsWithin (registry_of h)) (d
   roles : (may_copy (role_of h) ≡ true) × (names_refusal registry all ≡ None)
   roles = let parts = passed (not (may_copy (role_of h))) fault.MixedRoles (names_refusal registry all) free in (not-false (may_copy (role_of h)) parts.0, parts.1)
 
+  abbrev after-all : Registry
+  after-all = with_definitions registry all.charts all.dimensions
+
+  -- each beat of the Data has a word
+  named-words : (beats : List SentBeat) → AllByRecursion (HasWords message.child registry message.names) beats → HaveWords after-all (named_beats message.names beats)
+  named-words [] some = tt
+  named-words (beat ∷ beats) some = (some-length (numbered_words after-all (named_beat message.names beat).points) some.0, named-words beats some.1)
+
+  have-words : HaveWords after-all (named_beats message.names message.beats)
+  have-words = named-words message.beats (all-words h message data_is message.beats data_is.whole.series data_is.whole.words)
+
   -- where the registry is that of the history
-  copies-follow : (g : List Beat) (beats : List NamedBeat) → registry_of g ≡ registry → may_copy (role_of g) ≡ true → RisesFrom named_moment (last g) beats
+  copies-follow : (g : List Beat) (beats : List NamedBeat) → registry_of g ≡ registry → may_copy (role_of g) ≡ true → HaveWords after-all beats → RisesFrom named_moment (last g) beats
       → MayTakeAll g (copied_beats message.child (with_definitions registry all.charts all.dimensions) all beats)
-  copies-follow g [] is role rises = tt
-  copies-follow g (beat ∷ beats) is role rises = (
+  copies-follow g [] is role some rises = tt
+  copies-follow g (beat ∷ beats) is role some rises = (
     record {
       role = role;
       later = rises.0;
+      some = some.0;
       may = record {
         owned = defined-owned message.names data_is.charts data_is.ids data_is.apart data_is.whole.names (registry_of g);
         may = subst (λ (s : Registry). MayFollow s all) (sym is) (defined-may message.names data_is.charts data_is.ids data_is.apart data_is.whole.names registry within roles.1);
@@ -323,7 +345,7 @@ module _ (h : List Beat) (message : Data) (within : IsWithin (registry_of h)) (d
     },
     later-follow message.child (with_definitions registry all.charts all.dimensions) (copied_of message.child (with_definitions registry all.charts all.dimensions) all beat ∷ g) beats
         (defined-within message.names data_is.charts data_is.ids data_is.apart data_is.whole.names registry within roles.1)
-        (ap (λ (s : Registry). with_definitions s all.charts all.dimensions) is) refl rises.1,
+        (ap (λ (s : Registry). with_definitions s all.charts all.dimensions) is) refl some.1 rises.1,
   )
 
   abbrev copies : List Beat
@@ -337,9 +359,9 @@ module _ (h : List Beat) (message : Data) (within : IsWithin (registry_of h)) (d
   all-follow =
       elim (cases_lt message.prev message.from) [
         | inl lt ↦ subst (λ (spans : List Span). MayTakeAll h (map (gap_beat message.child) spans ++ copies)) (sym (cond-true _ (record { from = message.prev; to = message.from } ∷ []) [] (lt-ltb _ _ lt)))
-            ((roles.0, omega (arith, prev, lt)), copies-follow (missing (record { child = message.child; from = message.prev; to = message.from }) ∷ h) (named_beats message.names message.beats) refl refl rises)
+            ((roles.0, omega (arith, prev, lt)), copies-follow (missing (record { child = message.child; from = message.prev; to = message.from }) ∷ h) (named_beats message.names message.beats) refl refl have-words rises)
         | inr ge ↦ subst (λ (spans : List Span). MayTakeAll h (map (gap_beat message.child) spans ++ copies)) (sym (cond-false _ (record { from = message.prev; to = message.from } ∷ []) [] (le-ltb _ _ ge)))
-            (copies-follow h (named_beats message.names message.beats) refl roles.0 (let same : message.from ≡ last h = omega (arith, prev, ge, data_is.from) in subst (λ from. RisesFrom named_moment from (named_beats message.names message.beats)) same rises))
+            (copies-follow h (named_beats message.names message.beats) refl roles.0 have-words (let same : message.from ≡ last h = omega (arith, prev, ge, data_is.from) in subst (λ from. RisesFrom named_moment from (named_beats message.names message.beats)) same rises))
       ]
 
   -- each beat that the history makes of the Data may follow the history with those before it

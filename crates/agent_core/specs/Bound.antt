@@ -1,18 +1,18 @@
 -- How far the files of an agent's database grow: at every moment each stays within its share.
-use Rattle.std.specs.Prelude.{◌≡◌, ℕ, ◌+◌, ◌≤◌, true, List, length, None}
+use Rattle.std.specs.Prelude.{◌≡◌, ℕ, ◌≤◌, true, List}
 use Rattle.host_model.specs.declared.file.File.{File}
 use Rattle.host_model.specs.Disks.{EveryDisk}
 use Rattle.host_model.specs.Past.{Event}
 use Rattle.host_model.specs.Moments.{Throughout}
 use Rattle.host_model.specs.Seen.{Seen}
 use Rattle.history.specs.History.{Beat}
-use Rattle.side_codec.specs.Size.{side_limit}
 use Rattle.tier_settings.specs.declared.settings.Settings.{Settings}
 use Rattle.store_core.specs.disk.Shares.{share, IsWithin}
 use Rattle.store_core.specs.Store.{StoreState}
 use Rattle.store_core.specs.Stands.{Stands}
 use Rattle.store_core.specs.Stored.{is_numbered, Stored}
 use Rattle.agent_core.specs.Agent.{AgentState, IsSoundBy}
+use Rattle.agent_core.specs.Gaps.{side_share}
 
 -- the disk holds a database with the checkpoint of this number, or a later one
 pub record HasReached (number : ℕ) (disk : File → List ℕ) : Type 0 where
@@ -34,10 +34,9 @@ pub record IsSound (past : List Event) (agent : AgentState) (set : Settings) : T
   pub tried : List Beat
   pub sound : IsSoundBy past agent set h tried
 
--- Calls of an agent, one after the other, add at most so many gaps, and leave it sound. Each file stays within its share,
--- where a side with the gaps that the agent had before and with those has at most so many bytes.
-pub record RunsWithin (honest : Type 0) (added : ℕ) (host : Seen) (agent : AgentState) (host' : Seen) (agent' : AgentState) : Type 0 where
-  pub gaps : agent'.fault ≡ None → (agent.fault ≡ None) × (length agent'.gaps ≤ length agent.gaps + added)
+-- Calls of an agent, one after the other, leave it sound, and each file stays within its share, where a side has at most so
+-- many bytes.
+pub record RunsWithin (honest : Type 0) (host : Seen) (agent : AgentState) (host' : Seen) (agent' : AgentState) : Type 0 where
   pub sound : honest → (set : Settings) → IsSound host.past agent set → IsSound host'.past agent' set
-  pub bound : honest → (set : Settings) → IsSound host.past agent set → (limit : ℕ) → (agent.fault ≡ None → side_limit (length agent.gaps + added) ≤ limit)
+  pub bound : honest → (set : Settings) → IsSound host.past agent set → (limit : ℕ) → side_share set ≤ limit
       → GrowsWithin set limit host.past agent.store host'.past agent'.store

@@ -27,6 +27,7 @@ use Rattle.store_core.specs.disk.Holds.{OnlyOwn}
 use Rattle.store_core.specs.disk.Shares.{share, IsWithin}
 use Rattle.store_core.specs.Damaged.{IsDamagedIn}
 use Rattle.store_core.specs.Stands.{is_made, Stands}
+use Rattle.agent_core.specs.Gaps.{side_share}
 use Rattle.agent_core.specs.Notes.{IsDamaged}
 use Rattle.store_core.specs.Counts.{counted, raised}
 use Rattle.store_core.specs.Store.{is_due}
@@ -81,7 +82,7 @@ pub record Beats (honest : Type 0) (host : Seen) (agent : AgentState) (beat : Op
   -- the disk fails exactly where the host counted a failure
   pub cause : HasCause host.disk_faults host'.disk_faults (IsErrOf result DiskFault)
   -- each file of the database stays within its share, where a side with the agent's gaps has at most so many bytes
-  pub bound : honest → (set : Settings) (h : List Beat) → IsAgentOf host.past agent set h → (limit : ℕ) → side_limit (length agent.gaps) ≤ limit
+  pub bound : honest → (set : Settings) (h : List Beat) → IsAgentOf host.past agent set h → (limit : ℕ) → side_share set ≤ limit
       → GrowsWithin set limit host.past agent.store host'.past agent'.store
   pub gaps : agent'.gaps ≡ agent.gaps
   -- nothing happens to a file that is not the store's own, and nothing is told
@@ -118,7 +119,7 @@ pub record SetsHealth (honest : Type 0) (host : Seen) (agent : AgentState) (text
   -- the disk fails exactly where the host counted a failure
   pub cause : HasCause host.disk_faults host'.disk_faults (IsErrOf result DiskFault)
   -- each file of the database stays within its share, where a side with the agent's gaps has at most so many bytes
-  pub bound : honest → (set : Settings) (h : List Beat) → IsAgentOf host.past agent set h → (limit : ℕ) → side_limit (length agent.gaps) ≤ limit
+  pub bound : honest → (set : Settings) (h : List Beat) → IsAgentOf host.past agent set h → (limit : ℕ) → side_share set ≤ limit
       → GrowsWithin set limit host.past agent.store host'.past agent'.store
   pub gaps : agent'.gaps ≡ agent.gaps
   -- nothing happens to a file that is not the store's own, and nothing is told
@@ -263,7 +264,7 @@ pub record Lines (honest : Type 0) (host : Seen) (agent : AgentState) (feed : Fe
   -- the disk fails exactly where the host counted a failure
   pub cause : HasCause host.disk_faults host'.disk_faults (IsErrOf result DiskFault)
   -- each file of the database stays within its share, where a side with the agent's gaps has at most so many bytes
-  pub bound : honest → (set : Settings) (h : List Beat) → IsAgentOf host.past agent set h → (limit : ℕ) → side_limit (length agent.gaps) ≤ limit
+  pub bound : honest → (set : Settings) (h : List Beat) → IsAgentOf host.past agent set h → (limit : ℕ) → side_share set ≤ limit
       → GrowsWithin set limit host.past agent.store host'.past agent'.store
   pub gaps : agent'.gaps ≡ agent.gaps
   -- nothing happens to a file that is not the store's own, and nothing is told
@@ -350,11 +351,9 @@ pub record TakesData (honest : Type 0) (host : Seen) (agent : AgentState) (messa
   pub ready : AgentIsReady honest host'.past agent'
   -- the disk fails exactly where the host counted a failure
   pub cause : HasCause host.disk_faults host'.disk_faults (IsErrOf result DiskFault)
-  -- each file of the database stays within its share, where a side with the agent's gaps and one more has at most so many
-  -- bytes
-  pub bound : honest → (set : Settings) (h : List Beat) → IsAgentOf host.past agent set h → (limit : ℕ) → side_limit (length agent.gaps + 1) ≤ limit
+  -- each file of the database stays within its share, where a side has at most so many bytes
+  pub bound : honest → (set : Settings) (h : List Beat) → IsAgentOf host.past agent set h → (limit : ℕ) → side_share set ≤ limit
       → GrowsWithin set limit host.past agent.store host'.past agent'.store
-  pub few : agent'.fault ≡ None → length agent'.gaps ≤ length agent.gaps + 1
   -- nothing happens to a file that is not the store's own, and nothing is told
   pub only_here : honest → OnlyOwn host.past host'.past
   pub tells : host'.tell_faults ≡ host.tell_faults

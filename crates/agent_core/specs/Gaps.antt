@@ -1,10 +1,12 @@
 -- The gaps of a copy: the spans of its child that it did not copy. A history has its newest beat first, and gaps stand with
 -- the oldest first.
-use Rattle.std.specs.Prelude.{◌≡◌, ℕ, ◌<◌, ◌==◌, nat_lt, List, [], ◌∷◌, ◌++◌, map, if◌then◌else◌}
+use Rattle.std.specs.Prelude.{◌≡◌, ℕ, ◌+◌, ◌*◌, ◌<◌, ◌==◌, nat_lt, List, [], ◌∷◌, ◌++◌, map, if◌then◌else◌}
 use Rattle.std.specs.List.{AllByRecursion}
 use Rattle.history.specs.History.{Beat, gaps, Gap}
 use Rattle.side_codec.specs.declared.gap.GapSpan.{GapSpan}
+use Rattle.side_codec.specs.Size.{side_limit}
 use Rattle.tier_settings.specs.declared.settings.Settings.{Settings}
+use Rattle.tier_settings.specs.Settings.{first_tier}
 use Rattle.agent_core.specs.Answers.{floor_of_history}
 
 abbrev pub gap_span : Gap → GapSpan
@@ -36,6 +38,14 @@ gaps_of h = joined_behind [] (map gap_span (gaps h))
 abbrev pub gaps_above : ℕ → List GapSpan → List GapSpan
 gaps_above floor [] = []
 gaps_above floor (gap ∷ others) = if nat_lt gap.to floor then gaps_above floor others else gap ∷ others
+
+-- how many gaps a checkpoint may have: one more than tier 0 can keep beats with points
+unfoldable pub gap_limit : Settings → ℕ
+gap_limit set = ((first_tier set).extents + 1) * (first_tier set).items + 1
+
+-- how many bytes the side of a database may have: 8 for each of them, and all else has fewer than 2^28
+abbrev pub side_share : Settings → ℕ
+side_share set = side_limit (gap_limit set)
 
 -- the history left these gaps: those that came before them end below the floor
 pub record AreGapsLeft (set : Settings) (h : List Beat) (left : List GapSpan) : Type 0 where

@@ -1,5 +1,5 @@
 -- How a store keeps the beats of a history. A history has its newest beat first, and so has the store.
-use Rattle.std.specs.Prelude.{◌≡◌, ℕ, ◌<◌, ◌≤◌, true, List, [], ◌∷◌, map, find, slice_get, Some, None, is_some}
+use Rattle.std.specs.Prelude.{◌≡◌, ℕ, ◌<◌, true, List, [], ◌∷◌, length, map, find, slice_get, Some, None, is_some}
 use Rattle.std.specs.Option.{option_map_or, option_and_then}
 use Rattle.history.specs.declared.beat.OpenBeat.{OpenBeat}
 use Rattle.history.specs.declared.beat.OpenDim.{OpenDim}
@@ -65,10 +65,11 @@ pub record IsCollectedOf (h : List Beat) (moment : ℕ) (beat : OpenBeat) (kept 
 
 -- ---- copies, gaps and configurations
 
--- the copied beat may follow the history: this has collected nothing, and the beat is later
+-- the copied beat may follow the history: this has collected nothing, and the beat is later and has a word
 pub record CopyFollows (h : List Beat) (copy : Copy) : Type 0 where
   pub role : may_copy (role_of h) ≡ true
   pub later : last h < copy.moment
+  pub some : 0 < length copy.words
   pub may : MayCopy h copy
 
 -- the point of a copied word
@@ -95,8 +96,8 @@ gap_entry gap = entry.Gap (record { child = gap.child; from = gap.from; to = gap
 -- what a store keeps of a gap, where nothing was collected: the moment of its end, and its entry
 pub record IsGapOf (h : List Beat) (gap : Gap) (kept : StoreBeat) : Type 0 where
   pub role : may_copy (role_of h) ≡ true
-  -- it does not begin before the history ends
-  pub from : last h ≤ gap.from
+  -- it begins where the history ends
+  pub from : gap.from ≡ last h
   pub later : last h < gap.to
   pub is_kept : kept ≡ record { moment = Some gap.to; points = []; note = entry_bytes (gap_entry gap) }
   pub spelt : HasSpelling (gap_entry gap)

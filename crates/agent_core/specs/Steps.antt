@@ -1,5 +1,5 @@
 -- What an agent does with what a line led to, and what it promises of it.
-use Rattle.std.specs.Prelude.{◌≡◌, ◌≤◌, ℕ, Bool, List, ◌∷◌, length, Option, None, Result, IfOk, IfErr, IsErrOf, OnOk, OnErr}
+use Rattle.std.specs.Prelude.{◌≡◌, ◌≤◌, ℕ, Bool, List, ◌∷◌, Option, None, Result, IfOk, IfErr, IsErrOf, OnOk, OnErr}
 use Rattle.host_model.specs.Disks.{EveryDisk}
 use Rattle.host_model.specs.Cause.{HasCause}
 use Rattle.host_model.specs.Moments.{Throughout}
@@ -9,7 +9,6 @@ use Rattle.history.specs.Registry.{Registry}
 use Rattle.collect_block.specs.declared.step.Step.{Step}
 use Rattle.collect_block.specs.declared.step.Step.TheVariants as step
 use Rattle.alarm_events.specs.declared.event.Event.{Event}
-use Rattle.side_codec.specs.Size.{side_limit}
 use Rattle.tier_settings.specs.declared.settings.Settings.{Settings}
 use Rattle.store_core.specs.disk.Holds.{OnlyOwn}
 use Rattle.store_core.specs.Counts.{raised}
@@ -23,6 +22,7 @@ use Rattle.agent_core.specs.Answers.{reply_of}
 use Rattle.agent_core.specs.Bound.{GrowsWithin}
 use Rattle.host_model.specs.Seen.{Seen}
 use Rattle.agent_core.specs.Faults.{fault_after, LeavesAll, RefusedBy, Reopens}
+use Rattle.agent_core.specs.Gaps.{side_share}
 use Rattle.agent_core.specs.Stands.{StandsForOneOf}
 use Rattle.agent_core.specs.Roles.{copies}
 use Rattle.agent_core.specs.Rules.{beat_refusal, IsOpenBeat}
@@ -108,7 +108,7 @@ pub record Takes (honest : Type 0) (host : Seen) (agent : AgentState) (step : St
   pub ready : AgentIsReady honest host'.past agent'
   pub cause : HasCause host.disk_faults host'.disk_faults (IsErrOf result DiskFault)
   -- each file of the database stays within its share, where a side with the agent's gaps has at most so many bytes
-  pub bound : honest → (set : Settings) (h : List Beat) → IsAgentOf host.past agent set h → (limit : ℕ) → side_limit (length agent.gaps) ≤ limit
+  pub bound : honest → (set : Settings) (h : List Beat) → IsAgentOf host.past agent set h → (limit : ℕ) → side_share set ≤ limit
       → GrowsWithin set limit host.past agent.store host'.past agent'.store
   pub gaps : agent'.gaps ≡ agent.gaps
   -- nothing happens to a file that is not the store's own, and nothing is told

@@ -1,4 +1,4 @@
-ghost use Rattle.std.specs.Prelude.{◌≡◌, ◌<◌, ◌≤◌, ◌^◌, ◌⊎◌, ◌∷◌, [], ℕ, List, None, true, false, length, IfOk, IfErr, IsErrOf, OnOk, OnErr};
+ghost use Rattle.std.specs.Prelude.{◌≡◌, ◌<◌, ◌≤◌, ◌⊎◌, ◌∷◌, [], ℕ, List, None, true, false, IfOk, IfErr, IsErrOf, OnOk, OnErr};
 ghost use Rattle.host_model.specs.declared.file.File.{File as AFile};
 ghost use Rattle.host_model.specs.Past.{Event, IsDisk};
 ghost use Rattle.host_model.specs.Disks.{EveryDisk, reads_as};
@@ -12,6 +12,7 @@ ghost use Rattle.tier_settings.specs.Limits.{InLimits};
 ghost use Rattle.store_core.specs.disk.Holds.{OnlyOwn};
 ghost use Rattle.store_core.specs.disk.Shares.{share, IsWithin};
 ghost use Rattle.store_core.specs.Stands.{is_made, Stands};
+ghost use Rattle.agent_core.specs.Gaps.{side_share};
 ghost use Rattle.agent_core.specs.Notes.{IsDamaged};
 ghost use Rattle.beat_tiers.specs.State.{tier_floor};
 ghost use Rattle.store_core.specs.Counts.{raised};
@@ -438,7 +439,7 @@ impl Agent {
             (IsErrOf result AgentFault.DiskFault) }
         ensures bound { H.honest → (set : ASettings) (h : List HistoryBeat)
             → IsAgentOf (H.seen host.old).past self.old set h → (limit : ℕ)
-            → side_limit (length self.old.gaps) ≤ limit
+            → side_share set ≤ limit
             → GrowsWithin set limit (H.seen host.old).past self.old.store
             (H.seen host.new).past self.new.store }
         ensures gaps { self.new.gaps ≡ self.old.gaps }
@@ -516,7 +517,7 @@ impl Agent {
         ensures bound { H.honest → (set : ASettings) (h : List HistoryBeat)
             → HoldsHistory (H.seen host.old).past self.old.store set h
             → IsLeftBy set h (left_in self.old) → (limit : ℕ)
-            → side_limit (length self.old.gaps) ≤ limit
+            → side_share set ≤ limit
             → GrowsWithin set limit (H.seen host.old).past self.old.store
             (H.seen host.new).past self.new.store }
         ensures gaps { self.new.gaps ≡ self.old.gaps }
@@ -638,7 +639,7 @@ impl Agent {
             (IsErrOf result AgentFault.DiskFault) }
         ensures bound { H.honest → (set : ASettings) (h : List HistoryBeat)
             → IsAgentOf (H.seen host.old).past self.old set h → (limit : ℕ)
-            → side_limit (length self.old.gaps) ≤ limit
+            → side_share set ≤ limit
             → GrowsWithin set limit (H.seen host.old).past self.old.store
             (H.seen host.new).past self.new.store }
         ensures gaps { self.new.gaps ≡ self.old.gaps }

@@ -1,6 +1,6 @@
 //! What a store keeps of a beat, and how it is added to a history.
 
-ghost use Rattle.std.specs.Prelude.{◌≡◌, ◌↔◌, ◌<◌, ◌≤◌, ◌^◌, [], ◌∷◌, ◌⊎◌, ℕ, List, Option, Some, None, true, false, length, IfOk, IfErr, IfSome, OnOk};
+ghost use Rattle.std.specs.Prelude.{◌≡◌, ◌↔◌, ◌<◌, ◌≤◌, ◌^◌, [], ◌∷◌, ◌⊎◌, ℕ, List, Some, None, true, false, length, IfOk, IfErr, IfSome, OnOk};
 ghost use Rattle.host_model.specs.Disks.{EveryDisk};
 ghost use Rattle.host_model.specs.Moments.{Throughout};
 ghost use Rattle.history.specs.declared.beat.OpenBeat.{OpenBeat as AnOpenBeat};
@@ -10,7 +10,6 @@ ghost use Rattle.beat_points.specs.Points.{IsNext};
 ghost use Rattle.history.specs.Regular.{AreApart};
 ghost use Rattle.history.specs.Numbered.{numbered_beat, IsThere};
 ghost use Rattle.entry_codec.specs.declared.entry.Entry.TheVariants as entry;
-ghost use Rattle.side_codec.specs.Size.{side_limit};
 ghost use Rattle.tier_settings.specs.declared.settings.Settings.{Settings as ASettings};
 ghost use Rattle.entry_codec.specs.Entries.{entry_bytes, is_collected_canonical, HasSpelling, IsWithinLimits};
 ghost use Rattle.store_core.specs.beats.Beats.{beat_bytes, InForm};
@@ -19,6 +18,7 @@ ghost use Rattle.store_core.specs.Stands.{StandsAround};
 ghost use Rattle.store_core.specs.Store.{is_due, IsReady, IsReplayed, IsStoreOf};
 ghost use Rattle.store_core.specs.Stored.{Stored as AStored, stored_with};
 ghost use Rattle.agent_core.specs.Bound.{GrowsWithin};
+ghost use Rattle.agent_core.specs.Gaps.{side_share};
 ghost use Rattle.agent_core.specs.Keeping.{KeepsStore};
 ghost use Rattle.agent_core.specs.Kept.{kept_of, Follows, IsTakenBeat};
 ghost use Rattle.agent_core.specs.Stands.{HoldsHistory, StandsForHistory};
@@ -103,7 +103,7 @@ pub(crate) fn make_room<H: Host>(
     ensures tiers { store.new.tiers ≡ store.old.tiers }
     ensures bound { H.honest → (set : ASettings) (h : List HistoryBeat)
         → HoldsHistory (H.seen host.old).past store.old set h → IsLeftBy set h left.now
-        → (limit : ℕ) → side_limit (length left.now.gaps) ≤ limit
+        → (limit : ℕ) → side_share set ≤ limit
         → GrowsWithin set limit (H.seen host.old).past store.old (H.seen host.new).past
         store.new }
     ensures keeps { KeepsStore H.honest (H.seen host.old) store.old result (H.seen host.new)
@@ -218,7 +218,7 @@ pub(crate) fn add_health<H: Host>(
     ensures untouched { is_due store.old ≡ false → store.new.body ≡ store.old.body }
     ensures bound { H.honest → (set : ASettings) (h : List HistoryBeat)
         → HoldsHistory (H.seen host.old).past store.old set h → IsLeftBy set h left.now
-        → (limit : ℕ) → side_limit (length left.now.gaps) ≤ limit
+        → (limit : ℕ) → side_share set ≤ limit
         → GrowsWithin set limit (H.seen host.old).past store.old (H.seen host.new).past
         store.new }
     ensures keeps { KeepsStore H.honest (H.seen host.old) store.old result (H.seen host.new)

@@ -1,4 +1,4 @@
-ghost use Rattle.std.specs.Prelude.{◌≡◌, ◌<◌, ◌≤◌, ◌+◌, ℕ, Bool, true, false, List, [], ◌∷◌, ◌++◌, length, map, take, Option, Some, None, is_some, reverse, Result};
+ghost use Rattle.std.specs.Prelude.{◌≡◌, ◌<◌, ◌≤◌, ◌+◌, ℕ, Bool, true, false, List, [], ◌∷◌, ◌++◌, map, take, Option, Some, None, is_some, reverse, Result};
 ghost use Rattle.std.specs.List.{AllByRecursion};
 ghost use Rattle.host_model.specs.declared.file.File.{File as AFile};
 ghost use Rattle.history.specs.declared.line.Line.{Line};
@@ -26,12 +26,11 @@ ghost use Rattle.collect_block.specs.Feed.{CountsAt, IsFeedOf};
 ghost use Rattle.agent_core.specs.declared.fault.AgentFault.{AgentFault};
 ghost use Rattle.agent_core.specs.declared.reply.Reply.{Reply};
 ghost use Rattle.agent_core.specs.declared.reply.Said.{Said};
-ghost use Rattle.agent_core.specs.Agent.{AgentState, IsAgentOf, IsSoundBy};
+ghost use Rattle.agent_core.specs.Agent.{AgentState, IsSoundBy};
 ghost use Rattle.agent_core.specs.Alarms.{all_events, log_at};
 ghost use Rattle.agent_core.specs.Bound.{RunsWithin};
-ghost use Rattle.agent_core.specs.Gaps.{gaps_of};
 ghost use Rattle.agent_core.specs.Calls.{AnswersAsk, Beats, Keeps, Lines, Queries, SetsHealth, TakesData};
-ghost use Rattle.host_model.specs.Past.{Event, Told};
+ghost use Rattle.host_model.specs.Past.{Told};
 ghost use Rattle.host_model.specs.Seen.{Seen};
 ghost use Rattle.agent_core.specs.Kept.{onto, AreBeatsOf, CopyFollows};
 ghost use Rattle.agent_core.specs.Stands.{StandsForHistory};
@@ -128,54 +127,48 @@ pub fn calls_keep_an_agent_sound<H: Host>()
 
 /// The laws of calls one after the other, where each keeps each file of the database within its share and leaves an
 /// agent sound by some history: so do both. Each of `beat`, `line`, `set_health`, `take`, `query`, `kept` and `data`
-/// does, by what it promises, and so does what is told between them. Only `take` adds a gap, and at most one. An agent
-/// has no more gaps than its history. They do nothing.
+/// does, by what it promises, and so does what is told between them. They do nothing.
 pub fn calls_stay_within_shares<H: Host>()
     ensures none { (host : Seen) (agent : AgentState)
-        → RunsWithin H.honest 0 host agent host agent }
+        → RunsWithin H.honest host agent host agent }
     ensures still { (host host' : Seen) (agent : AgentState)
-        → (H.honest → host'.past ≡ host.past) → RunsWithin H.honest 0 host agent host' agent }
+        → (H.honest → host'.past ≡ host.past) → RunsWithin H.honest host agent host' agent }
     ensures told { (host host' : Seen) (agent : AgentState) (sent : List ℕ)
         → (H.honest → host'.past ≡ Told sent ∷ host.past)
-        → RunsWithin H.honest 0 host agent host' agent }
-    ensures both { (first second : ℕ) (host middle new : Seen) (agent between after : AgentState)
-        → RunsWithin H.honest first host agent middle between
-        → RunsWithin H.honest second middle between new after
-        → RunsWithin H.honest (first + second) host agent new after }
-    ensures more { (added most : ℕ) (host host' : Seen) (agent agent' : AgentState) → added ≤ most
-        → RunsWithin H.honest added host agent host' agent'
-        → RunsWithin H.honest most host agent host' agent' }
+        → RunsWithin H.honest host agent host' agent }
+    ensures both { (host middle new : Seen) (agent between after : AgentState)
+        → RunsWithin H.honest host agent middle between
+        → RunsWithin H.honest middle between new after
+        → RunsWithin H.honest host agent new after }
     ensures beat { (host host' : Seen) (agent agent' : AgentState) (beat : OpenBeat) (moment : ℕ)
         (result : Result Reply AgentFault)
         → Beats H.honest host agent beat moment result host' agent'
-        → RunsWithin H.honest 0 host agent host' agent' }
+        → RunsWithin H.honest host agent host' agent' }
     ensures line { (host host' : Seen) (agent agent' : AgentState) (feed feed' : Feed)
         (line : Line) (result : Result Said AgentFault) (every : ℕ) (past : List Line)
         → IsFeedOf feed every past → CountsAt line feed agent.registry
         → Lines H.honest host agent feed line result host' agent' feed'
-        → RunsWithin H.honest 0 host agent host' agent' }
+        → RunsWithin H.honest host agent host' agent' }
     ensures set_health { (host host' : Seen) (agent agent' : AgentState) (text : List ℕ)
         (result : Result Reply AgentFault)
         → SetsHealth H.honest host agent text result host' agent'
-        → RunsWithin H.honest 0 host agent host' agent' }
+        → RunsWithin H.honest host agent host' agent' }
     ensures take { (host host' : Seen) (agent agent' : AgentState) (message : Data)
         (result : Result (Verdict × Reply) AgentFault)
         → TakesData H.honest host agent message result host' agent'
-        → RunsWithin H.honest 1 host agent host' agent' }
+        → RunsWithin H.honest host agent host' agent' }
     ensures query { (host host' : Seen) (agent agent' : AgentState) (text : List ℕ)
         (result : Result (List ℕ) AgentFault)
         → Queries H.honest host agent text result host' agent'
-        → RunsWithin H.honest 0 host agent host' agent' }
+        → RunsWithin H.honest host agent host' agent' }
     ensures kept { (host host' : Seen) (agent agent' : AgentState)
         (result : Result AKept AgentFault)
         → Keeps H.honest host agent result host' agent'
-        → RunsWithin H.honest 0 host agent host' agent' }
+        → RunsWithin H.honest host agent host' agent' }
     ensures data { (host host' : Seen) (agent agent' : AgentState) (ask : AnAsk)
         (result : Result (Option Data) AgentFault)
         → AnswersAsk H.honest host agent ask result host' agent'
-        → RunsWithin H.honest 0 host agent host' agent' }
-    ensures gaps { (past : List Event) (agent : AgentState) (set : ASettings) (h : List Beat)
-        → IsAgentOf past agent set h → length agent.gaps ≤ length (gaps_of h) }
+        → RunsWithin H.honest host agent host' agent' }
 {}
 
 /// The law of what is answered of a history: the points that its tiers see of a series are its points, so that

@@ -13,6 +13,7 @@ ghost use Rattle.store_core.specs.declared.beats.beat.Beat.{Beat as StoreBeat};
 ghost use Rattle.side_codec.specs.Sides.{read_side, HasSpelling};
 ghost use Rattle.side_codec.specs.Size.{side_limit, KeepLimits};
 ghost use Rattle.agent_core.specs.Answers.{floor_of_history};
+ghost use Rattle.agent_core.specs.Gaps.{gaps_above};
 ghost use Rattle.agent_core.specs.Kept.{AreBeatsOf};
 ghost use Rattle.agent_core.specs.Left.{IsFit, IsLeftBy};
 ghost use Rattle.agent_core.specs.Notes.{is_good, noted_in, noted_in_side, role_in};
@@ -164,7 +165,7 @@ pub(crate) fn write_left(alloc: Global, left: &Left, floor: u32) -> Result<ByteL
         → floor ≡ floor_of_history set h 0 → IsSideOf set h bytes) }
     ensures short { IfOk result (λ bytes. length bytes < 2 ^ 32) }
     ensures size { IfOk result (λ bytes. KeepLimits (kept (held left.now.alarms))
-        → length bytes ≤ side_limit (length left.now.gaps)) }
+        → length bytes ≤ side_limit (length (gaps_above floor left.now.gaps))) }
     ensures memory { IfErr result (λ fault. fault ≡ AgentFault.Memory) }
 {
     let Ok(side) = side_of(alloc, left, floor) else {

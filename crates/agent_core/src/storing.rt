@@ -1,6 +1,6 @@
 //! How the gap and the beats of a child's message are added to a history.
 
-ghost use Rattle.std.specs.Prelude.{◌≡◌, ◌<◌, ◌≤◌, ◌+◌, ◌^◌, ◌++◌, ◌∷◌, ◌⊎◌, [], ℕ, List, Option, Some, None, true, false, length, IfOk, IfErr, OnOk};
+ghost use Rattle.std.specs.Prelude.{◌≡◌, ◌<◌, ◌≤◌, ◌+◌, ◌^◌, ◌++◌, ◌∷◌, ◌⊎◌, [], ℕ, List, Some, None, true, false, length, IfOk, IfErr, OnOk};
 ghost use Rattle.alarm_core.specs.UpTo.{IsUpTo};
 ghost use Rattle.host_model.specs.Past.{Event};
 ghost use Rattle.host_model.specs.Disks.{EveryDisk};
@@ -9,7 +9,6 @@ ghost use Rattle.history.specs.History.{Beat as HistoryBeat, copied, missing, re
 ghost use Rattle.history.specs.Numbered.{numbered_charts, numbered_dimensions};
 ghost use Rattle.history.specs.Registry.{Registry as ARegistry, same_chart, same_dimension, with_definitions};
 ghost use Rattle.history.specs.Regular.{AreApart};
-ghost use Rattle.side_codec.specs.Size.{side_limit};
 ghost use Rattle.tier_settings.specs.declared.settings.Settings.{Settings as ASettings};
 ghost use Rattle.entry_codec.specs.Entries.{is_collected_canonical, IsWithinLimits};
 ghost use Rattle.replication.specs.Copies.{latest as latest_of};
@@ -20,7 +19,7 @@ ghost use Rattle.store_core.specs.beats.Beats.{beat_bytes, InForm};
 ghost use Rattle.store_core.specs.Store.{is_due, IsReady, IsReplayed};
 ghost use Rattle.agent_core.specs.Bound.{GrowsWithin};
 ghost use Rattle.agent_core.specs.Copying.{beats_of, definitions_in, names_refusal};
-ghost use Rattle.agent_core.specs.Gaps.{join_gap};
+ghost use Rattle.agent_core.specs.Gaps.{side_share, join_gap};
 ghost use Rattle.agent_core.specs.Keeping.{KeepsStore};
 ghost use Rattle.agent_core.specs.Kept.{onto, IsCopyOf};
 ghost use Rattle.agent_core.specs.Stands.{HoldsHistory, StandsForPrefix, StandsForHistory};
@@ -60,7 +59,7 @@ fn add_gap<H: Host>(
     requires replayed { IsReplayed store.old }
     requires going { store.old.fault ≡ None }
     requires not_due { is_due store.old ≡ false }
-    requires begins { store.old.tiers.last ≤ from }
+    requires begins { from ≡ store.old.tiers.last }
     requires later { store.old.tiers.last < to }
     ensures any_moment { H.honest → (set : ASettings) (h : List HistoryBeat)
         → HoldsHistory (H.seen host.old).past store.old set h → may_copy (role_of h) ≡ true
@@ -264,7 +263,7 @@ fn add_later<H: Host>(
     ensures bound { H.honest → (set : ASettings) (g : List HistoryBeat)
         → HoldsHistory (H.seen host.old).past store.old set g → IsLeftBy set g left.old
         → MayTakeAll g (later_copies left.old.registry message.now beats.now)
-        → (limit : ℕ) → side_limit (length left.old.gaps) ≤ limit
+        → (limit : ℕ) → side_share set ≤ limit
         → GrowsWithin set limit (H.seen host.old).past store.old (H.seen host.new).past
         store.new }
     ensures gaps { left.new.gaps ≡ left.old.gaps }
@@ -336,7 +335,7 @@ fn add_beats<H: Host>(
         → IsLeftBy set g (record left.old { registry = before })
         → left.old.registry ≡ with_names before message.now
         → MayTakeAll g (sent_copies left.old.registry message.now beats.now)
-        → (limit : ℕ) → side_limit (length left.old.gaps) ≤ limit
+        → (limit : ℕ) → side_share set ≤ limit
         → GrowsWithin set limit (H.seen host.old).past store.old (H.seen host.new).past
         store.new }
     ensures gaps { left.new.gaps ≡ left.old.gaps }
@@ -396,10 +395,9 @@ fn add_gap_before<H: Host>(
     ensures only { left.new ≡ record left.old { role = left.new.role; gaps = left.new.gaps } }
     ensures bound { H.honest → (set : ASettings) (h : List HistoryBeat)
         → HoldsHistory (H.seen host.old).past store.old set h → IsLeftBy set h left.old
-        → (limit : ℕ) → side_limit (length left.old.gaps) ≤ limit
+        → (limit : ℕ) → side_share set ≤ limit
         → GrowsWithin set limit (H.seen host.old).past store.old (H.seen host.new).past
         store.new }
-    ensures few { OnOk result (length left.new.gaps ≤ length left.old.gaps + 1) }
     ensures keeps { KeepsStore H.honest (H.seen host.old) store.old result (H.seen host.new)
         store.new }
     ensures last { OnOk result (store.new.tiers.last ≡ message.now.from) }
@@ -495,10 +493,9 @@ pub(crate) fn add_message<H: Host>(
     ensures bound { H.honest → (set : ASettings) (h : List HistoryBeat)
         → HoldsHistory (H.seen host.old).past store.old set h → IsLeftBy set h left.old
         → may_copy (role_of h) ≡ true → (limit : ℕ)
-        → side_limit (length left.old.gaps + 1) ≤ limit
+        → side_share set ≤ limit
         → GrowsWithin set limit (H.seen host.old).past store.old (H.seen host.new).past
         store.new }
-    ensures few { OnOk result (length left.new.gaps ≤ length left.old.gaps + 1) }
     ensures keeps { KeepsStore H.honest (H.seen host.old) store.old result (H.seen host.new)
         store.new }
     ensures last { OnOk result (store.new.tiers.last ≡ message.now.upto) }

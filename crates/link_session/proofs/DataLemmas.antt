@@ -248,7 +248,7 @@ module _ (honest : Type 0) (host : Seen) (agent : AgentState) (message : Data) (
       badly-for agent_fault.Exists refused fails unchanged = absurd refused
       badly-for agent_fault.Memory refused fails unchanged = spent-for-data agent_fault.Memory refused (fails (inr refl))
 
-    pub data-badly : IsData message → (a : Option (List ℕ)) → ParentTakes honest host agent 1 taking (failed fault) middle agent' (Some id) a a
+    pub data-badly : IsData message → (a : Option (List ℕ)) → ParentTakes honest host agent taking (failed fault) middle agent' (Some id) a a
     data-badly form a = record {
       does = λ hon set h0 h start made at. badly-copies hon set h0 h start made at a fault (takes.refused at.agent_of.going) takes.reopens takes.unchanged
           (takes.fault ∙ ap (λ (f : Option Why). fault_after {T = Verdict × Reply} f (Err fault)) at.agent_of.going);
@@ -260,12 +260,12 @@ module _ (honest : Type 0) (host : Seen) (agent : AgentState) (message : Data) (
 
   -- ---- it is not stored
   pub data-left : (v : Verdict) (reply : Reply) → TakesData honest host agent message (Ok (v, reply)) middle agent' → is_stored v ≡ false → (result : Result Flow SessionFault) (a b : Option (List ℕ)) → AgentIsReady honest host.past agent → IfErr result IsRefusing
-      → (agent' ≡ agent → (set : Settings) (h : List Beat) → IsAgentOf host.past agent set h → IsStill h (takes_by set id h message v) (Some id) result a b) → ParentTakes honest host agent 1 taking result middle agent' (Some id) a b
+      → (agent' ≡ agent → (set : Settings) (h : List Beat) → IsAgentOf host.past agent set h → IsStill h (takes_by set id h message v) (Some id) result a b) → ParentTakes honest host agent taking result middle agent' (Some id) a b
   data-left v reply takes other result a b ready refusing still =
       let same = takes.left (ap is_stored (sym takes.verdict) ∙ other) in
-      subst (λ (x : AgentState). ParentTakes honest host agent 1 taking result middle x (Some id) a b) (sym same.0)
-      (subst (λ (x : Seen). ParentTakes honest host agent 1 taking result x agent (Some id) a b) (sym same.1)
-      (takes-still honest host agent 1 taking (Some id) result a b ready refusing
+      subst (λ (x : AgentState). ParentTakes honest host agent taking result middle x (Some id) a b) (sym same.0)
+      (subst (λ (x : Seen). ParentTakes honest host agent taking result x agent (Some id) a b) (sym same.1)
+      (takes-still honest host agent taking (Some id) result a b ready refusing
       (λ set h is_of. subst (λ (w : Verdict). IsStill h (takes_by set id h message w) (Some id) result a b) (takes.verdict ∙ verdict-is host.past agent set h is_of message) (still same.0 set h is_of))))
 
   -- ---- it is stored
@@ -429,12 +429,12 @@ module _ (honest : Type 0) (host : Seen) (agent : AgentState) (message : Data) (
         storing-for form set h (sym (takes.verdict ∙ verdict-is host.past agent set h is_of message)) (sym (refusal-is host.past agent set h is_of message) ∙ takes.refused is_of.going)
         result host.past new.past (λ spent. absurd (have-apart (spent-own result spent)))
 
-    pub data-stored : IsData message → HasCause middle.tell_faults new.tell_faults (IsErrOf result TellFault) → new.disk_faults ≡ middle.disk_faults → ParentTakes honest host agent 1 taking result new agent' (Some id) a b
+    pub data-stored : IsData message → HasCause middle.tell_faults new.tell_faults (IsErrOf result TellFault) → new.disk_faults ≡ middle.disk_faults → ParentTakes honest host agent taking result new agent' (Some id) a b
     data-stored form tells disk = record {
       does = λ hon set h0 h start made at. stored-copies hon set h0 h start made at;
       only_for = λ _ set h is_of. have-for form set h is_of;
       stores = have-stores tells disk;
       faults = have-receives;
-      bound = runs-both honest 1 0 host middle new agent agent' agent' (take-runs honest host middle agent agent' message (Ok (verdict.Stored, reply)) takes)
+      bound = runs-both honest host middle new agent agent' agent' (take-runs honest host middle agent agent' message (Ok (verdict.Stored, reply)) takes)
           (have-runs honest middle agent' new (reply_text reply) agent'.last result a b says);
     }

@@ -13,6 +13,7 @@ use Rattle.tier_settings.specs.declared.settings.Settings.{Settings}
 use Rattle.agent_core.specs.declared.fault.AgentFault.{AgentFault}
 use Rattle.agent_core.specs.declared.fault.AgentFault.TheVariants as agent_fault
 use Rattle.agent_core.specs.Agent.{AgentIsReady, AgentState, IsAgentOf}
+use Rattle.agent_core.proofs.RunLemmas.{runs-none}
 use Rattle.link_session.specs.declared.fault.PeerFault.TheVariants.{BadFrame, WrongChild}
 use Rattle.link_session.specs.declared.fault.SessionFault.{SessionFault}
 use Rattle.link_session.specs.declared.fault.SessionFault.TheVariants.{LinkFault, Agent, PeerRefused, Ended, InputLimit, TellFault, Memory}
@@ -24,7 +25,6 @@ use Rattle.link_session.specs.Parent.{asks, copies, copies_other, hears_first, h
 use Rattle.link_session.specs.Receiving.{keeps_all, CopiesSo, GoesSo, HasGoneOn, IsReceiving, OnlyFor, ParentTakes, StoresAt, StoresOnly, TellsPrefix}
 use Rattle.link_session.specs.Sending.{IsAgents}
 use Rattle.link_session.specs.Session.{result_of, DoesSo, IsRefusing, Leaves, SaysThen}
-use Rattle.link_session.proofs.BoundLemmas.{idle-runs}
 use Rattle.link_session.proofs.LeavesLemmas.{leaves-nothing}
 use Rattle.link_session.proofs.OnlyForLemmas.{refusing-spares}
 use Rattle.link_session.proofs.SendingLemmas.{spent-none}
@@ -102,14 +102,14 @@ module _ (honest : Type 0) (host : Seen) (agent : AgentState) where
     quiet = λ _. leaves-nothing host.past;
   }
 
-  pub takes-still : (added : ℕ) (course : Settings → List Beat → Course Parent) (peer' : Option ℕ) (result : Result Flow SessionFault) (a b : Option (List ℕ)) → AgentIsReady honest host.past agent → IfErr result IsRefusing
-      → ((set : Settings) (h : List Beat) → IsAgentOf host.past agent set h → IsStill h (course set h) peer' result a b) → ParentTakes honest host agent added course result host agent peer' a b
-  takes-still added course peer' result a b ready refusing still = record {
+  pub takes-still : (course : Settings → List Beat → Course Parent) (peer' : Option ℕ) (result : Result Flow SessionFault) (a b : Option (List ℕ)) → AgentIsReady honest host.past agent → IfErr result IsRefusing
+      → ((set : Settings) (h : List Beat) → IsAgentOf host.past agent set h → IsStill h (course set h) peer' result a b) → ParentTakes honest host agent course result host agent peer' a b
+  takes-still course peer' result a b ready refusing still = record {
     does = λ _ set h0 h start made at. let is = still set h at.agent_of in still-copies set h0 h start made at (course set h) peer' result a b is.same is.silent is.does is.unsaid;
     only_for = λ _ set h is_of. still-for h (course set h) result refusing;
     stores = still-stores result refusing ready;
     faults = refusing-receives result refusing;
-    bound = idle-runs honest host agent added;
+    bound = runs-none honest host agent;
   }
 
   -- it asks

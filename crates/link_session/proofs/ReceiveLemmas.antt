@@ -17,7 +17,7 @@ use Rattle.store_core.specs.declared.fault.Why.{Why}
 use Rattle.agent_core.specs.declared.fault.AgentFault.TheVariants as agent_fault
 use Rattle.agent_core.specs.Agent.{AgentIsReady, AgentState, IsAgentOf}
 use Rattle.agent_core.specs.Bound.{RunsWithin}
-use Rattle.agent_core.proofs.RunLemmas.{runs-none}
+use Rattle.agent_core.proofs.RunLemmas.{runs-both, runs-none}
 use Rattle.link_session.specs.declared.fault.PeerFault.{PeerFault}
 use Rattle.link_session.specs.declared.fault.SessionFault.{SessionFault}
 use Rattle.link_session.specs.declared.fault.SessionFault.TheVariants.{LinkFault, Agent, PeerRefused, Ended, InputLimit, TellFault, Memory}
@@ -31,10 +31,8 @@ use Rattle.link_session.specs.Parent.{parent_begins, parent_does, IsToStore, Par
 use Rattle.link_session.specs.Receiving.{is_for_data, is_spent_by, keeps_all, AnswersStored, Copies, CopiesSo, HasGoneOn, HasStored, IsReceiving, OnlyFor, ParentTakes, ReceivesHistory, StoresAt, StoresOnly, TellsPrefix}
 use Rattle.link_session.specs.Sending.{spent_by, IsAgents}
 use Rattle.link_session.specs.Session.{result_of, says_all, HearsNoMore, IsSilentFor, LinkSeen, SaysPrefix, Talks}
-use Rattle.link_session.specs.Steps.{data_in}
 use Rattle.link_session.specs.Taking.{EndsOnlyAt, ParentEndsAt, ParentEndsBy}
 use Rattle.link_session.proofs.AckLemmas.{acked-nothing, acked-since, text-prefix}
-use Rattle.link_session.proofs.BoundLemmas.{frame-runs}
 use Rattle.link_session.proofs.CopyLemmas.{crashes-copy, same-history, step-extends}
 use Rattle.link_session.proofs.ExchangeLemmas.{all-prefix, done-next, frame-ends, silence-ends, talks-first, talks-next}
 use Rattle.link_session.proofs.GrowLemmas.{stored-first}
@@ -66,7 +64,7 @@ pub record IsUnderWay (honest : Type 0) (host : Seen) (agent : AgentState) (link
   pub goes : honest → (set : Settings) (h : List Beat) → IsAgentOf host.past agent set h → GoesOnWith set h frames peer host.past host'.past agent' link.sent link'.sent
   pub knows : KnowsSince peer frames
   pub stores : StoresOnly honest host agent all_well host' agent'
-  pub bound : RunsWithin honest (length (data_in frames)) host agent host' agent'
+  pub bound : RunsWithin honest host agent host' agent'
   pub faults : link'.faults ≡ link.faults
 
 abbrev pub failing_with : SessionFault → SessionResult
@@ -243,7 +241,7 @@ module _ (honest : Type 0) (host : Seen) (agent : AgentState) (link : LinkSeen) 
     -- ---- a frame is heard
     module _ (f : Frame) (incoming' : Incoming) (heard : LinkSeen) (given : HasGiven incoming' link.left heard.left (on.frames ++ f ∷ [])) (same : heard.sent ≡ between.sent) (unfailed : heard.faults ≡ between.faults)
         (result : Result Flow SessionFault) (host'' : Seen) (agent'' : AgentState) (peer' : Option ℕ) (link' : LinkSeen)
-        (takes : ParentTakes honest host' agent' (length (data_in (f ∷ []))) (λ set h. parent_does set (record { history = h; peer = peer }) f) result host'' agent'' peer' heard.sent link'.sent)
+        (takes : ParentTakes honest host' agent' (λ set h. parent_does set (record { history = h; peer = peer }) f) result host'' agent'' peer' heard.sent link'.sent)
         (only : EndsOnlyAt (λ (ended : SessionResult). ParentEndsBy peer ended f) result) (known : OnOk result (IsSome peer'))
         (left : link'.left ≡ heard.left) (cause : HasCause heard.faults link'.faults (IsErrOf result LinkFault)) where
       given-then : HasGiven incoming' link.left link'.left (on.frames ++ f ∷ [])
@@ -252,8 +250,8 @@ module _ (honest : Type 0) (host : Seen) (agent : AgentState) (link : LinkSeen) 
       cause-then : HasCause link.faults link'.faults (IsErrOf result LinkFault)
       cause-then = subst (λ (n : ℕ). HasCause n link'.faults (IsErrOf result LinkFault)) (unfailed ∙ on.faults) cause
 
-      bound-then : RunsWithin honest (length (data_in (on.frames ++ f ∷ []))) host agent host'' agent''
-      bound-then = frame-runs honest host agent on.frames f host' host'' agent' agent'' on.bound takes.bound
+      bound-then : RunsWithin honest host agent host'' agent''
+      bound-then = runs-both honest host host' host'' agent agent' agent'' on.bound takes.bound
 
       module _ (hon : honest) (set : Settings) (h : List Beat) (is_of : IsAgentOf host.past agent set h) where
         abbrev now : Parent

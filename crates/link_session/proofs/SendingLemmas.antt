@@ -108,11 +108,11 @@ module _ (honest : Type 0) (host : Seen) (agent : AgentState) where
           id = after.id ∙ before.id;
           registry = after.registry ∙ before.registry;
           ready = after.ready;
-          bound = runs-both honest 0 0 host middle host' agent between agent' before.bound after.bound;
+          bound = runs-both honest host middle host' agent between agent' before.bound after.bound;
         }
 
     -- a call that reads
-    pub reads-well : {T U : Type 0} (value : T) (result : Result U SessionFault) → (IsAgents result → ⊥) → Reads honest host agent (Ok value) host' agent' → RunsWithin honest 0 host agent host' agent' → OnlyReads honest host agent result host' agent'
+    pub reads-well : {T U : Type 0} (value : T) (result : Result U SessionFault) → (IsAgents result → ⊥) → Reads honest host agent (Ok value) host' agent' → RunsWithin honest host agent host' agent' → OnlyReads honest host agent result host' agent'
     reads-well {T} {U} value result other reads runs = record {
       quiet = reads.quiet;
       disk = reads.cause.stays (λ e. cc);
@@ -127,7 +127,7 @@ module _ (honest : Type 0) (host : Seen) (agent : AgentState) where
       bound = runs;
     }
 
-    pub reads-badly : {T U : Type 0} (fault : AgentFault) → Reads {T = T} honest host agent (Err fault) host' agent' → RunsWithin honest 0 host agent host' agent' → OnlyReads {T = U} honest host agent (Err (Agent fault)) host' agent'
+    pub reads-badly : {T U : Type 0} (fault : AgentFault) → Reads {T = T} honest host agent (Err fault) host' agent' → RunsWithin honest host agent host' agent' → OnlyReads {T = U} honest host agent (Err (Agent fault)) host' agent'
     reads-badly {T} {U} fault reads runs = record {
       quiet = reads.quiet;
       disk = reads.cause.stays (λ is. asked (inside is) reads.faults);

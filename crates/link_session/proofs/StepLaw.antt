@@ -29,10 +29,18 @@ use Rattle.link_session.specs.Exchange.{both, ends, exchange, nothing, refuses, 
 use Rattle.link_session.specs.Keeps.{no_more, Extends}
 use Rattle.link_session.specs.Parent.{done_with, parent_begins, parent_does, Parent}
 use Rattle.link_session.specs.Steps.{answers, data_in, delivers, gets, happens, run_from, start, world_of, IsKept, LeadTo, Step, WasSent, World}
-use Rattle.link_session.proofs.BoundLemmas.{data-both}
 use Rattle.link_session.proofs.CopyLemmas.{behind, behind-beats, in-line, prefix-between, same-history, step-adds, Adds}
 use Rattle.link_session.proofs.ExtendsLemmas.{extends-onto}
 use Rattle.link_session.proofs.GrowLemmas.{frames-extend, hears-extends}
+
+-- ---- the Data of frames
+data-both : (fs gs : List Frame) → data_in (fs ++ gs) ≡ data_in fs ++ data_in gs
+data-both [] gs = refl
+data-both (frame.Data message ∷ fs) gs = ap (λ (ms : List Data). message ∷ ms) (data-both fs gs)
+data-both (frame.Hello id ∷ fs) gs = data-both fs gs
+data-both (frame.Ask ask ∷ fs) gs = data-both fs gs
+data-both (frame.Have had ∷ fs) gs = data-both fs gs
+data-both (frame.Bye reason ∷ fs) gs = data-both fs gs
 
 -- ---- a child that sends
 module _ (set : Settings) (child : List Beat) (floors : List ℕ) (parent : List Beat) (messages : List Data) where

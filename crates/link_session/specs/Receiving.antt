@@ -35,7 +35,6 @@ use Rattle.link_session.specs.Keeps.{Extends, IsAckedUpTo, Keeps, LeavesFiles}
 use Rattle.link_session.specs.Parent.{done_with, parent_begins, parent_does, Parent, StoresAtLast}
 use Rattle.link_session.specs.Sending.{spent_by}
 use Rattle.link_session.specs.Session.{is_refusal, result_of, DoesSo, Exchanges, Leaves, LinkSeen, SaysThen}
-use Rattle.link_session.specs.Steps.{data_in}
 use Rattle.link_session.specs.Taking.{ParentEndsAt, TakesLink}
 
 -- ---- what was told and stored
@@ -158,14 +157,14 @@ pub record OnlyFor (h : List Beat) (course : Course Parent) (result : SessionRes
   -- where nothing is added to the history, nothing happens to any file
   pub quiet : course.now.history ≡ h → LeavesFiles old new
 
--- a parent did this at a frame, which depends on the history that its agent is of, and added at most so many gaps
-pub record ParentTakes (honest : Type 0) (host : Seen) (agent : AgentState) (added : ℕ) (course : Settings → List Beat → Course Parent) (result : Result Flow SessionFault) (host' : Seen) (agent' : AgentState) (peer' : Option ℕ) (sent sent' : Option (List ℕ)) : Type 0 where
+-- a parent did this at a frame, which depends on the history that its agent is of
+pub record ParentTakes (honest : Type 0) (host : Seen) (agent : AgentState) (course : Settings → List Beat → Course Parent) (result : Result Flow SessionFault) (host' : Seen) (agent' : AgentState) (peer' : Option ℕ) (sent sent' : Option (List ℕ)) : Type 0 where
   pub does : honest → (set : Settings) (h0 h : List Beat) (start : List Event) (made : List ℕ) → StoresAt host.past agent set h0 h start made
       → CopiesSo set h0 h start made (course set h) peer' result agent' host'.past sent sent'
   pub only_for : honest → (set : Settings) (h : List Beat) → IsAgentOf host.past agent set h → OnlyFor h (course set h) (result_of result) host.past host'.past
   pub stores : StoresOnly honest host agent result host' agent'
   pub faults : IfErr result IsReceiving
-  pub bound : RunsWithin honest added host agent host' agent'
+  pub bound : RunsWithin honest host agent host' agent'
 
 -- what a child says is true of one that is these beats and had these floors
 abbrev pub IsTrueFrame : (floors : List ℕ) (child : List SeenBeat) → Frame → Type 0
@@ -208,9 +207,8 @@ pub record ReceivesHistory (honest : Type 0) (host : Seen) (agent : AgentState) 
   pub faults : IfErr result IsReceiving
   -- whatever the host tells, no more is taken of the link than may be, and its bytes say why it ended
   pub taking : TakesLink ParentEndsAt result link link'
-  -- each file of the database stays within its share, where a side with the agent's gaps, and with one more for each Data that
-  -- was taken, has at most so many bytes
-  pub bound : RunsWithin honest (length (data_in taking.frames)) host agent host' agent'
+  -- each file of the database stays within its share
+  pub bound : RunsWithin honest host agent host' agent'
   -- the link fails exactly where it counted a failure
   pub cause : HasCause link.faults link'.faults (IsErrOf result LinkFault)
 

@@ -48,7 +48,7 @@ pub record OnlyReads {T : Type 0} (honest : Type 0) (host : Seen) (agent : Agent
   -- what a later call requires
   pub ready : AgentIsReady honest host'.past agent'
   -- each file of the database stays within its share, where a side with the agent's gaps has at most so many bytes
-  pub bound : RunsWithin honest 0 host agent host' agent'
+  pub bound : RunsWithin honest host agent host' agent'
 
 -- the faults of `send`
 abbrev pub IsSending : SessionFault → Type 0

@@ -1,5 +1,5 @@
 //! A parent, which receives the history of a child.
-ghost use Rattle.std.specs.Prelude.{◌≡◌, ◌∷◌, [], List, length, Some, IfErr, IsErrOf, IsSome, OnOk};
+ghost use Rattle.std.specs.Prelude.{◌≡◌, ◌∷◌, List, Some, IfErr, IsErrOf, IsSome, OnOk};
 ghost use Rattle.host_model.specs.Cause.{HasCause};
 ghost use Rattle.host_model.specs.Past.{Told};
 ghost use Rattle.link_frames.specs.DataForm.{IsData};
@@ -14,7 +14,6 @@ ghost use Rattle.agent_core.specs.Replies.{reply_text};
 ghost use Rattle.link_session.specs.Parent.{copies_other, hears_first, hears_next, parent_does, takes_by};
 ghost use Rattle.link_session.specs.Receiving.{GoesSo, IsCutShort, ParentTakes, ReceivesHistory, SaysHave};
 ghost use Rattle.link_session.specs.Session.{link_seen, SaysThen};
-ghost use Rattle.link_session.specs.Steps.{data_in};
 ghost use Rattle.link_session.specs.Taking.{EndsOnlyAt, ParentEndsAtFirst, ParentEndsAtLater, ParentEndsBy};
 
 use crate::fault::{PeerFault, SessionFault};
@@ -87,7 +86,7 @@ impl Parent {
     ) -> Result<Flow, SessionFault>
         requires { AgentIsReady H.honest (H.seen host.old).past agent.old }
         ensures takes { ParentTakes H.honest (H.seen host.old) agent.old
-            (length (data_in (frame.now ∷ []))) (λ set h. hears_first h frame.now)
+            (λ set h. hears_first h frame.now)
             result (H.seen host.new) agent.new self.new.peer (L.sent link.old) (L.sent link.new) }
         ensures ends { EndsOnlyAt (λ ended. ParentEndsAtFirst ended frame.now) result }
         ensures known { OnOk result (IsSome self.new.peer) }
@@ -148,7 +147,7 @@ impl Parent {
     ) -> Result<Flow, SessionFault>
         requires ready { AgentIsReady H.honest (H.seen host.old).past agent.old }
         requires form { IsData message.now }
-        ensures takes { ParentTakes H.honest (H.seen host.old) agent.old 1
+        ensures takes { ParentTakes H.honest (H.seen host.old) agent.old
             (λ set h. takes_by set id h message.now (verdict_of h message.now))
             result (H.seen host.new) agent.new (Some id) (L.sent link.old) (L.sent link.new) }
         ensures ends { EndsOnlyAt
@@ -196,7 +195,7 @@ impl Parent {
         requires ready { AgentIsReady H.honest (H.seen host.old).past agent.old }
         requires spelt { HasSpelling frame.now }
         ensures takes { ParentTakes H.honest (H.seen host.old) agent.old
-            (length (data_in (frame.now ∷ []))) (λ set h. hears_next set id h frame.now)
+            (λ set h. hears_next set id h frame.now)
             result (H.seen host.new) agent.new (Some id) (L.sent link.old) (L.sent link.new) }
         ensures ends { EndsOnlyAt (λ ended. ParentEndsAtLater ended frame.now) result }
         ensures left { L.left link.new ≡ L.left link.old }
@@ -223,7 +222,6 @@ impl Parent {
         requires ready { AgentIsReady H.honest (H.seen host.old).past agent.old }
         requires spelt { HasSpelling frame.now }
         ensures takes { ParentTakes H.honest (H.seen host.old) agent.old
-            (length (data_in (frame.now ∷ [])))
             (λ set h. parent_does set (record { history = h; peer = self.old.peer }) frame.now)
             result (H.seen host.new) agent.new self.new.peer (L.sent link.old) (L.sent link.new) }
         ensures ends { EndsOnlyAt

@@ -1,5 +1,6 @@
-use Rattle.std.proofs.Common.{◌≡◌, ℕ, List, Ok, Option, Some, inr, refl}
+use Rattle.std.proofs.Common.{◌≡◌, ℕ, List, Ok, Option, Some, inr, refl, arith}
 use Rattle.host_model.specs.Seen.{Seen}
+use Rattle.agent_core.specs.Gaps.{side_share}
 use Rattle.link_session.specs.Session.{link_seen, LinkSeen}
 use Rattle.agent_app.specs.declared.command.Command.TheVariants.{Collect, Convert, Health, Log, New, Query, Receive, Run, Send}
 use Rattle.agent_app.specs.Collect.{collector_of, outside_of, Outside}
@@ -40,18 +41,18 @@ returns-in-Err g c =
       configures = λ is. want-configures g.H.Host.honest host (λ h file. g.met.H.Host.reads_an_image c.args.host.now file h) left faults;
       logs = λ form is. want-asks g.H.Host.honest host (λ h file. g.met.H.Host.reads_an_image c.args.host.now file h) (log_for form);
       log_takes_nothing = λ form is. refl;
-      bound = λ h. stays-still link host.past (command_of c.args.words.now);
+      bound = λ h. stays-still host.past (command_of c.args.words.now);
     }
 
 pub returns-in-Ok-None-clause-bound : goal.returns-in-Ok-None-clause-bound
-returns-in-Ok-None-clause-bound g c h = stays-still _ (g.H.Host.seen c.args.host.now).past (command_of c.args.words.now)
+returns-in-Ok-None-clause-bound g c h = stays-still (g.H.Host.seen c.args.host.now).past (command_of c.args.words.now)
 
 pub returns-in-Ok-Some-Collect-clause-bound : goal.returns-in-Ok-Some-Collect-clause-bound
 returns-in-Ok-Some-Collect-clause-bound g c h =
     let host : Seen = g.H.Host.seen c.args.host.now in
     let host' : Seen = g.H.Host.seen c.collect_words.new.host in
     let is : c.read.result ≡ Ok (Some (Collect c.in-Ok-Some-Collect.every c.in-Ok-Some-Collect.starts)) = cc in
-    stays-as c.read.result c.args.words.now (Some (Collect c.in-Ok-Some-Collect.every c.in-Ok-Some-Collect.starts)) _ _ host.past host'.past is c.read.ensures.command
+    stays-as c.read.result c.args.words.now (Some (Collect c.in-Ok-Some-Collect.every c.in-Ok-Some-Collect.starts)) host.past host'.past is c.read.ensures.command
     (c.collect_words.ensures.bound h, unopened-stays g.H.Host.honest host host' h (λ none. (c.collect_words.ensures.untaken h none).1))
 
 pub returns-in-Ok-Some-Convert-clause-bound : goal.returns-in-Ok-Some-Convert-clause-bound
@@ -59,7 +60,7 @@ returns-in-Ok-Some-Convert-clause-bound g c h =
     let host : Seen = g.H.Host.seen c.args.host.now in
     let host' : Seen = g.H.Host.seen c.convert.new.host in
     let is : c.read.result ≡ Ok (Some Convert) = cc in
-    stays-as c.read.result c.args.words.now (Some Convert) _ _ host.past host'.past is c.read.ensures.command
+    stays-as c.read.result c.args.words.now (Some Convert) host.past host'.past is c.read.ensures.command
     (λ shares. leaves-within shares host.past host'.past (c.convert.ensures.leaves_disk.any_moment h))
 
 pub returns-in-Ok-Some-Health-clause-bound : goal.returns-in-Ok-Some-Health-clause-bound
@@ -67,7 +68,7 @@ returns-in-Ok-Some-Health-clause-bound g c h =
     let host : Seen = g.H.Host.seen c.args.host.now in
     let host' : Seen = g.H.Host.seen c.health.new.host in
     let is : c.read.result ≡ Ok (Some Health) = cc in
-    stays-as c.read.result c.args.words.now (Some Health) _ _ host.past host'.past is c.read.ensures.command
+    stays-as c.read.result c.args.words.now (Some Health) host.past host'.past is c.read.ensures.command
     (c.health.ensures.bound h, unopened-stays g.H.Host.honest host host' h (λ none. (c.health.ensures.untaken h none).host_is))
 
 pub returns-in-Ok-Some-Log-clause-bound : goal.returns-in-Ok-Some-Log-clause-bound
@@ -75,7 +76,7 @@ returns-in-Ok-Some-Log-clause-bound g c h =
     let host : Seen = g.H.Host.seen c.args.host.now in
     let host' : Seen = g.H.Host.seen c.log.new.host in
     let is : c.read.result ≡ Ok (Some (Log c.in-Ok-Some-Log.form)) = cc in
-    stays-as c.read.result c.args.words.now (Some (Log c.in-Ok-Some-Log.form)) _ _ host.past host'.past is c.read.ensures.command
+    stays-as c.read.result c.args.words.now (Some (Log c.in-Ok-Some-Log.form)) host.past host'.past is c.read.ensures.command
     (λ shares. found-within shares host.past host'.past (c.log.ensures.any_moment h))
 
 pub returns-in-Ok-Some-New-clause-bound : goal.returns-in-Ok-Some-New-clause-bound
@@ -83,15 +84,15 @@ returns-in-Ok-Some-New-clause-bound g c h =
     let host : Seen = g.H.Host.seen c.args.host.now in
     let host' : Seen = g.H.Host.seen c.new.new.host in
     let is : c.read.result ≡ Ok (Some (New c.in-Ok-Some-New.plan)) = cc in
-    stays-as c.read.result c.args.words.now (Some (New c.in-Ok-Some-New.plan)) _ _ host.past host'.past is c.read.ensures.command
-    (λ limit fits. c.new.ensures.bound limit fits h)
+    stays-as c.read.result c.args.words.now (Some (New c.in-Ok-Some-New.plan)) host.past host'.past is c.read.ensures.command
+    (let set = settings_for c.in-Ok-Some-New.plan in c.new.ensures.bound (side_share set) (omega arith) h)
 
 pub returns-in-Ok-Some-Query-clause-bound : goal.returns-in-Ok-Some-Query-clause-bound
 returns-in-Ok-Some-Query-clause-bound g c h =
     let host : Seen = g.H.Host.seen c.args.host.now in
     let host' : Seen = g.H.Host.seen c.query.new.host in
     let is : c.read.result ≡ Ok (Some Query) = cc in
-    stays-as c.read.result c.args.words.now (Some Query) _ _ host.past host'.past is c.read.ensures.command
+    stays-as c.read.result c.args.words.now (Some Query) host.past host'.past is c.read.ensures.command
     (λ shares. found-within shares host.past host'.past (c.query.ensures.any_moment h))
 
 pub returns-in-Ok-Some-Receive-clause-bound : goal.returns-in-Ok-Some-Receive-clause-bound
@@ -99,7 +100,7 @@ returns-in-Ok-Some-Receive-clause-bound g c h =
     let host : Seen = g.H.Host.seen c.args.host.now in
     let host' : Seen = g.H.Host.seen c.receive.new.host in
     let is : c.read.result ≡ Ok (Some Receive) = cc in
-    stays-as c.read.result c.args.words.now (Some Receive) _ _ host.past host'.past is c.read.ensures.command
+    stays-as c.read.result c.args.words.now (Some Receive) host.past host'.past is c.read.ensures.command
     (c.receive.ensures.bound h, unopened-stays g.H.Host.honest host host' h (λ none. (c.receive.ensures.untaken h none).1))
 
 pub returns-in-Ok-Some-Run-clause-bound : goal.returns-in-Ok-Some-Run-clause-bound
@@ -107,7 +108,7 @@ returns-in-Ok-Some-Run-clause-bound g c h =
     let host : Seen = g.H.Host.seen c.args.host.now in
     let host' : Seen = g.H.Host.seen c.run.new.host in
     let is : c.read.result ≡ Ok (Some Run) = cc in
-    stays-as c.read.result c.args.words.now (Some Run) _ _ host.past host'.past is c.read.ensures.command
+    stays-as c.read.result c.args.words.now (Some Run) host.past host'.past is c.read.ensures.command
     (c.run.ensures.bound h, unopened-stays g.H.Host.honest host host' h (λ none. (c.run.ensures.untaken h none).host_is))
 
 pub returns-in-Ok-Some-Send-clause-bound : goal.returns-in-Ok-Some-Send-clause-bound
@@ -115,5 +116,5 @@ returns-in-Ok-Some-Send-clause-bound g c h =
     let host : Seen = g.H.Host.seen c.args.host.now in
     let host' : Seen = g.H.Host.seen c.send.new.host in
     let is : c.read.result ≡ Ok (Some Send) = cc in
-    stays-as c.read.result c.args.words.now (Some Send) _ _ host.past host'.past is c.read.ensures.command
+    stays-as c.read.result c.args.words.now (Some Send) host.past host'.past is c.read.ensures.command
     (λ shares. found-within shares host.past host'.past (c.send.ensures.host_is.any_moment h))

@@ -6,7 +6,6 @@ ghost use Rattle.host_model.specs.Disks.{EveryDisk};
 ghost use Rattle.host_model.specs.Cause.{HasCause};
 ghost use Rattle.host_model.specs.Moments.{Throughout};
 ghost use Rattle.history.specs.History.{Beat as HistoryBeat, child as child_of};
-ghost use Rattle.side_codec.specs.Size.{side_limit};
 ghost use Rattle.tier_settings.specs.declared.settings.Settings.{Settings as ASettings};
 ghost use Rattle.store_core.specs.disk.Holds.{OnlyOwn};
 ghost use Rattle.store_core.specs.Counts.{counted};
@@ -19,6 +18,7 @@ ghost use Rattle.agent_core.specs.Calls.{agent_adds, agent_verdict, AnswersAsk, 
 ghost use Rattle.agent_core.specs.Copies.{data_of_history};
 ghost use Rattle.agent_core.specs.Copying.{beats_of, copy_refusal, events_onto, refusal_by};
 ghost use Rattle.agent_core.specs.Faults.{fault_after, IsReading, IsSpending, LeavesAll, RefusedBy, Reopens};
+ghost use Rattle.agent_core.specs.Gaps.{side_share};
 ghost use Rattle.agent_core.specs.Kept.{onto};
 ghost use Rattle.agent_core.specs.Stands.{StandsForPrefix};
 ghost use Rattle.agent_core.specs.Roles.{child_in};
@@ -136,11 +136,9 @@ impl Agent {
             (IsErrOf result AgentFault.DiskFault) }
         ensures bound { H.honest → (set : ASettings) (h : List HistoryBeat)
             → IsAgentOf (H.seen host.old).past self.old set h → (limit : ℕ)
-            → side_limit (length self.old.gaps + 1) ≤ limit
+            → side_share set ≤ limit
             → GrowsWithin set limit (H.seen host.old).past self.old.store
             (H.seen host.new).past self.new.store }
-        ensures few { self.new.fault ≡ None
-            → length self.new.gaps ≤ length self.old.gaps + 1 }
         ensures only_here { H.honest
             → OnlyOwn (H.seen host.old).past (H.seen host.new).past }
         ensures tells { (H.seen host.new).tell_faults ≡ (H.seen host.old).tell_faults }
@@ -197,11 +195,9 @@ impl Agent {
             (IsErrOf result AgentFault.DiskFault) }
         ensures bound { H.honest → (set : ASettings) (h : List HistoryBeat)
             → IsAgentOf (H.seen host.old).past self.old set h → (limit : ℕ)
-            → side_limit (length self.old.gaps + 1) ≤ limit
+            → side_share set ≤ limit
             → GrowsWithin set limit (H.seen host.old).past self.old.store
             (H.seen host.new).past self.new.store }
-        ensures few { self.new.fault ≡ None
-            → length self.new.gaps ≤ length self.old.gaps + 1 }
         ensures only_here { H.honest
             → OnlyOwn (H.seen host.old).past (H.seen host.new).past }
         ensures tells { (H.seen host.new).tell_faults ≡ (H.seen host.old).tell_faults }

@@ -1,4 +1,4 @@
-use Rattle.std.proofs.Common.{◌∙◌, ap, arith}
+use Rattle.std.proofs.Common.{◌∙◌, ap, length, arith}
 use Rattle.host_model.specs.Moments.{begins}
 use Rattle.agent_core.specs.Answers.{tier_beats}
 use Rattle.agent_core.proofs.AnswerLemmas.{floor-is}
@@ -7,7 +7,7 @@ use Rattle.agent_core.proofs.KeptLemmas.{holds-moved, moves, stays}
 use Rattle.agent_core.proofs.StoredLemmas.{applied-all, were_kept}
 use Rattle.store_core.specs.Store.{StoreState}
 use Rattle.store_core.specs.Stored.{advanced}
-use Rattle.agent_core.proofs.BoundLemmas.{advanced-number, checkpoint-grows, either-reached, grows-none, left-texts, store-reached}
+use Rattle.agent_core.proofs.BoundLemmas.{advanced-number, checkpoint-grows, either-reached, grows-none, left-texts, side-fits, store-reached}
 use Rattle.agent_core.proofs.keeping.make_room.Goals as goal
 
 pub returns-then-not-due-clause-any_moment : goal.returns-then-not-due-clause-any_moment
@@ -56,7 +56,8 @@ returns-in-Ok-clause-bound g c true_host set h holds by limit fits =
     let new = (g.H.Host.seen c.checkpoint.new.host).past in
     let side = c.in_ok-side.side in
     let size = c.in_ok-side.ensures.size (left-texts past c.args.store.now set h holds c.args.left.now by) in
-    checkpoint-grows past new c.args.store.now c.checkpoint.new.self set h holds true_host limit side (omega (arith, size, fits))
+    let floor_is = c.floor.ensures.applied set (tier_beats h) (applied-all past c.args.store.now set h holds) ∙ floor-is set h 0 in
+    checkpoint-grows past new c.args.store.now c.checkpoint.new.self set h holds true_host limit side (side-fits past c.args.store.now set h holds c.args.left.now by c.floor.result floor_is (length side) limit size fits)
     (advanced-number past new c.args.store.now c.checkpoint.new.self set h holds side (c.in-Ok.ensures.advanced true_host holds.stored holds.store_of))
     (store-reached new c.checkpoint.new.self (advanced holds.stored side) (c.in-Ok.ensures.advanced true_host holds.stored holds.store_of)) c.checkpoint.ensures.bound
 
@@ -66,6 +67,7 @@ returns-in-Err-clause-bound g c true_host set h holds by limit fits =
     let new = (g.H.Host.seen c.checkpoint.new.host).past in
     let side = c.in_ok-side.side in
     let size = c.in_ok-side.ensures.size (left-texts past c.args.store.now set h holds c.args.left.now by) in
+    let floor_is = c.floor.ensures.applied set (tier_beats h) (applied-all past c.args.store.now set h holds) ∙ floor-is set h 0 in
     let same = ap (λ (s : StoreState). s.files.number) c.in-Err.ensures.leaves in
-    checkpoint-grows past new c.args.store.now c.checkpoint.new.self set h holds true_host limit side (omega (arith, size, fits)) (omega (arith, same))
+    checkpoint-grows past new c.args.store.now c.checkpoint.new.self set h holds true_host limit side (side-fits past c.args.store.now set h holds c.args.left.now by c.floor.result floor_is (length side) limit size fits) (omega (arith, same))
     (either-reached past new c.args.store.now c.checkpoint.new.self set h holds side same (c.checkpoint.ensures.any_moment true_host holds.stored holds.store_of)) c.checkpoint.ensures.bound

@@ -1,4 +1,4 @@
-use Rattle.agent_core.proofs.RunLemmas.{agent-few, beat-runs, data-runs, health-runs, kept-runs, line-runs, query-runs, runs-both, runs-more, runs-none, runs-still, runs-told, take-runs}
+use Rattle.agent_core.proofs.RunLemmas.{beat-runs, data-runs, health-runs, kept-runs, line-runs, query-runs, runs-both, runs-none, runs-still, runs-told, take-runs}
 use Rattle.agent_core.proofs.law.calls_stay_within_shares.Goals as goal
 
 pub returns-clause-none : goal.returns-clause-none
@@ -11,10 +11,7 @@ pub returns-clause-told : goal.returns-clause-told
 returns-clause-told g c host host' agent sent told = runs-told g.H.Host.honest host host' agent sent told
 
 pub returns-clause-both : goal.returns-clause-both
-returns-clause-both g c first second host middle new agent between after one other = runs-both g.H.Host.honest first second host middle new agent between after one other
-
-pub returns-clause-more : goal.returns-clause-more
-returns-clause-more g c added most host host' agent agent' less runs = runs-more g.H.Host.honest added most host host' agent agent' less runs
+returns-clause-both g c host middle new agent between after one other = runs-both g.H.Host.honest host middle new agent between after one other
 
 pub returns-clause-beat : goal.returns-clause-beat
 returns-clause-beat g c host host' agent agent' beat moment result did = beat-runs g.H.Host.honest host host' agent agent' beat moment result did
@@ -36,6 +33,3 @@ returns-clause-kept g c host host' agent agent' result did = kept-runs g.H.Host.
 
 pub returns-clause-data : goal.returns-clause-data
 returns-clause-data g c host host' agent agent' ask result did = data-runs g.H.Host.honest host host' agent agent' ask result did
-
-pub returns-clause-gaps : goal.returns-clause-gaps
-returns-clause-gaps g c past agent set h is_of = agent-few past agent set h is_of

@@ -1,5 +1,6 @@
 use Rattle.std.proofs.Common.{ap, subst, ◌∙◌, ℕ, ◌≤◌, List, length, sym}
 use Rattle.side_codec.specs.Sides.{side_bytes, HasSpelling}
+use Rattle.agent_core.specs.Gaps.{gaps_above}
 use Rattle.agent_core.proofs.SideLemmas.{side-written}
 use Rattle.side_codec.specs.Size.{side_limit}
 use Rattle.agent_core.proofs.SideSizes.{side-short}
@@ -13,5 +14,5 @@ returns-clause-side c set h beats are is floor_is =
 pub returns-clause-size : goal.returns-clause-size
 returns-clause-size c keep =
     let same = c.in-Ok.ensures in
-    subst (λ (bytes : List ℕ). length bytes ≤ side_limit (length c.args.left.now.gaps)) (sym c.in-Ok-write_side.ensures.spelling)
+    subst (λ (bytes : List ℕ). length bytes ≤ side_limit (length (gaps_above c.args.floor c.args.left.now.gaps))) (sym c.in-Ok-write_side.ensures.spelling)
     (side-short c.args.floor c.args.left.now _ same c.in-Ok-write_side.ensures.written keep)

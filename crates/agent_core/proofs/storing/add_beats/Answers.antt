@@ -1,4 +1,4 @@
-use Rattle.std.proofs.Common.{◌≡◌, List, ◌∷◌, [], Ok, Err, refl, rules, sym, ap, subst, ◌≤◌, length, ◌∙◌}
+use Rattle.std.proofs.Common.{◌≡◌, List, ◌∷◌, [], Ok, Err, refl, rules, sym, ap, subst, ◌∙◌}
 use Rattle.std.proofs.lemmas.Result.{err_from_is_err_and}
 use Rattle.host_model.specs.Disks.{EveryDisk}
 use Rattle.host_model.specs.Moments.{begins, Throughout}
@@ -10,8 +10,6 @@ use Rattle.agent_core.specs.Storing.{later_copies, AreSent, HasAdded, MayTakeAll
 use Rattle.agent_core.proofs.PrefixLemmas.{added-behind, copies-are, first_copy, first-moments, rest-moments, rest-sent, sent-first}
 use Rattle.agent_core.proofs.KeepsLemmas.{keeps-after, keeps-both}
 use Rattle.agent_core.proofs.KeptLemmas.{stays}
-use Rattle.side_codec.specs.declared.gap.GapSpan.{GapSpan}
-use Rattle.side_codec.specs.Size.{side_limit}
 use Rattle.agent_core.proofs.BoundLemmas.{grows-both, grows-none}
 use Rattle.agent_core.proofs.storing.add_beats.Goals as goal
 
@@ -171,9 +169,8 @@ returns-in_err-more-clause-bound g c true_host before set h holds was is all lim
     let stored = c.in_ok-events.ensures.done true_host before set h copy holds was sent in
     let more_is : later_copies c.add_copy.new.left.registry message rest ≡ later = ap (λ (r : Registry). later_copies r message rest) c.add_copy.ensures.registry in
     let takes : MayTakeAll (copied copy ∷ h) (later_copies c.add_copy.new.left.registry message rest) = subst (MayTakeAll (copied copy ∷ h)) (sym more_is) mine.1 in
-    let few = subst (λ (gaps : List GapSpan). side_limit (length gaps) ≤ limit) (sym c.add_copy.ensures.gaps) fits in
     grows-both set limit (g.H.Host.seen c.args.host.now).past (g.H.Host.seen c.add_copy.new.host).past (g.H.Host.seen c.add_later.new.host).past c.args.store.now c.add_copy.new.store c.add_later.new.store
-    (c.add_copy.ensures.bound true_host set h holds limit) (c.add_later.ensures.bound true_host set (copied copy ∷ h) stored.holds stored.left_by takes limit few)
+    (c.add_copy.ensures.bound true_host set h holds limit) (c.add_later.ensures.bound true_host set (copied copy ∷ h) stored.holds stored.left_by takes limit fits)
 
 pub returns-in_err-add_events-clause-bound : goal.returns-in_err-add_events-clause-bound
 returns-in_err-add_events-clause-bound g c true_host before set h holds was is all limit fits =
@@ -190,9 +187,8 @@ returns-in_err-add_events-clause-bound g c true_host before set h holds was is a
     let stored = c.in_ok-events.ensures.done true_host before set h copy holds was sent in
     let more_is : later_copies c.add_copy.new.left.registry message rest ≡ later = ap (λ (r : Registry). later_copies r message rest) c.add_copy.ensures.registry in
     let takes : MayTakeAll (copied copy ∷ h) (later_copies c.add_copy.new.left.registry message rest) = subst (MayTakeAll (copied copy ∷ h)) (sym more_is) mine.1 in
-    let few = subst (λ (gaps : List GapSpan). side_limit (length gaps) ≤ limit) (sym c.add_copy.ensures.gaps) fits in
     grows-both set limit (g.H.Host.seen c.args.host.now).past (g.H.Host.seen c.add_copy.new.host).past (g.H.Host.seen c.add_later.new.host).past c.args.store.now c.add_copy.new.store c.add_later.new.store
-    (c.add_copy.ensures.bound true_host set h holds limit) (c.add_later.ensures.bound true_host set (copied copy ∷ h) stored.holds stored.left_by takes limit few)
+    (c.add_copy.ensures.bound true_host set h holds limit) (c.add_later.ensures.bound true_host set (copied copy ∷ h) stored.holds stored.left_by takes limit fits)
 
 pub returns-clause-bound : goal.returns-clause-bound
 returns-clause-bound g c true_host before set h holds was is all limit fits =
@@ -209,9 +205,8 @@ returns-clause-bound g c true_host before set h holds was is all limit fits =
     let stored = c.in_ok-events.ensures.done true_host before set h copy holds was sent in
     let more_is : later_copies c.add_copy.new.left.registry message rest ≡ later = ap (λ (r : Registry). later_copies r message rest) c.add_copy.ensures.registry in
     let takes : MayTakeAll (copied copy ∷ h) (later_copies c.add_copy.new.left.registry message rest) = subst (MayTakeAll (copied copy ∷ h)) (sym more_is) mine.1 in
-    let few = subst (λ (gaps : List GapSpan). side_limit (length gaps) ≤ limit) (sym c.add_copy.ensures.gaps) fits in
     grows-both set limit (g.H.Host.seen c.args.host.now).past (g.H.Host.seen c.add_copy.new.host).past (g.H.Host.seen c.add_later.new.host).past c.args.store.now c.add_copy.new.store c.add_later.new.store
-    (c.add_copy.ensures.bound true_host set h holds limit) (c.add_later.ensures.bound true_host set (copied copy ∷ h) stored.holds stored.left_by takes limit few)
+    (c.add_copy.ensures.bound true_host set h holds limit) (c.add_later.ensures.bound true_host set (copied copy ∷ h) stored.holds stored.left_by takes limit fits)
 
 pub returns-in_err-more-clause-gaps : goal.returns-in_err-more-clause-gaps
 returns-in_err-more-clause-gaps g c = c.add_later.ensures.gaps ∙ c.add_copy.ensures.gaps

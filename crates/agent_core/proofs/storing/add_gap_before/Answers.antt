@@ -1,4 +1,4 @@
-use Rattle.std.proofs.Common.{◌<◌, List, [], Ok, Err, arith, refl, rules, subst, ◌≤◌, ◌+◌, length, sym}
+use Rattle.std.proofs.Common.{◌<◌, List, [], Ok, Err, arith, refl, rules, subst}
 use Rattle.std.proofs.lemmas.Result.{err_from_is_err_and}
 use Rattle.host_model.specs.Disks.{EveryDisk}
 use Rattle.host_model.specs.Moments.{begins, Throughout}
@@ -13,9 +13,7 @@ use Rattle.agent_core.proofs.PrefixLemmas.{first-moments, prefix-none}
 use Rattle.agent_core.proofs.KeepsLemmas.{keeps-after, keeps-both}
 use Rattle.agent_core.proofs.KeptLemmas.{left-gap, stays, store-last}
 use Rattle.agent_core.proofs.StoringLemmas.{gap-none, gap-some}
-use Rattle.side_codec.specs.declared.gap.GapSpan.{GapSpan}
 use Rattle.agent_core.proofs.BoundLemmas.{grows-both, grows-none}
-use Rattle.agent_core.proofs.SideSizes.{joined-few}
 use Rattle.agent_core.proofs.storing.add_gap_before.Goals as goal
 
 pub returns-in_err-make_room-clause-any_moment : goal.returns-in_err-make_room-clause-any_moment
@@ -110,12 +108,3 @@ returns-in_ok-add_gap-clause-bound g c true_host set h holds by limit fits =
 pub returns-else-message-clause-bound : goal.returns-else-message-clause-bound
 returns-else-message-clause-bound g c true_host set h holds by limit fits =
     grows-none set limit (g.H.Host.seen c.args.host.now).past c.args.store.now
-
-pub returns-in_ok-add_gap-clause-few : goal.returns-in_ok-add_gap-clause-few
-returns-in_ok-add_gap-clause-few g c =
-    let message = c.args.message.now in
-    let gap : GapSpan = record { from = message.prev; to = message.from } in
-    subst (λ (gaps : List GapSpan). length gaps ≤ length c.args.left.now.gaps + 1) (sym c.in_ok-join_gap.ensures.joined) (joined-few c.args.left.now.gaps gap)
-
-pub returns-else-message-clause-few : goal.returns-else-message-clause-few
-returns-else-message-clause-few g c = omega arith

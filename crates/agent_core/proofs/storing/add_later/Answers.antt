@@ -1,4 +1,4 @@
-use Rattle.std.proofs.Common.{◌≡◌, ◌+◌, ℕ, suc, Some, Ok, Err, rules, slice_get, take, refl, sym, ap, subst, ◌∙◌, arith, ◌≤◌, List, length}
+use Rattle.std.proofs.Common.{◌≡◌, ◌+◌, ℕ, suc, Some, Ok, Err, rules, slice_get, take, refl, sym, ap, subst, ◌∙◌, arith}
 use Rattle.std.proofs.lemmas.Option.{slice_get-get_or}
 use Rattle.std.proofs.lemmas.Result.{err_from_is_err_and}
 use Rattle.history.specs.History.{copied}
@@ -10,8 +10,6 @@ use Rattle.agent_core.specs.Kept.{onto}
 use Rattle.agent_core.specs.Storing.{later_copies}
 use Rattle.agent_core.proofs.PrefixLemmas.{all-at, later-at, later_copy, latest-next, rises-at, room-moments, sent-later, stored-moments, stored-more, stored-none, stored-room, takes-next, HaveStored}
 use Rattle.agent_core.proofs.KeepsLemmas.{keeps-after, keeps-both, keeps-err, keeps-so-far, own-joined}
-use Rattle.side_codec.specs.declared.gap.GapSpan.{GapSpan}
-use Rattle.side_codec.specs.Size.{side_limit}
 use Rattle.agent_core.proofs.BoundLemmas.{grows-both, grows-none}
 use Rattle.agent_core.proofs.storing.add_later.Goals as goal
 
@@ -138,9 +136,8 @@ loop-beat-preserved g c =
           let here = (g.H.Host.seen c.loop-beat.host).past in
           let roomed = (g.H.Host.seen c.make_room.new.host).past in
           let was = c.loop-beat.invariant.stored true_host set h holds by all in
-          let few = subst (λ (gaps : List GapSpan). side_limit (length gaps) ≤ limit) (sym c.loop-beat.invariant.gaps) fits in
           let so_far = c.loop-beat.invariant.bound true_host set h holds by all limit fits in
-          let first = grows-both set limit past here roomed c.args.store.now c.loop-beat.store c.make_room.new.store so_far (c.make_room.ensures.bound true_host set (onto h (take n more)) was.added.holds was.added.left_by limit few) in
+          let first = grows-both set limit past here roomed c.args.store.now c.loop-beat.store c.make_room.new.store so_far (c.make_room.ensures.bound true_host set (onto h (take n more)) was.added.holds was.added.left_by limit fits) in
           let room = c.in_ok-make_room.ensures.done true_host set (onto h (take n more)) was.added.holds was.added.left_by in
           grows-both set limit past roomed (g.H.Host.seen c.add_copy.new.host).past c.args.store.now c.make_room.new.store c.add_copy.new.store first (c.add_copy.ensures.bound true_host set (onto h (take n more)) room limit);
       gaps = c.add_copy.ensures.gaps ∙ c.loop-beat.invariant.gaps;
@@ -201,9 +198,8 @@ returns-in_err-make_room-clause-bound g c true_host set h holds by all limit fit
     let here = (g.H.Host.seen c.loop-beat.host).past in
     let roomed = (g.H.Host.seen c.make_room.new.host).past in
     let was = c.loop-beat.invariant.stored true_host set h holds by all in
-    let few = subst (λ (gaps : List GapSpan). side_limit (length gaps) ≤ limit) (sym c.loop-beat.invariant.gaps) fits in
     let so_far = c.loop-beat.invariant.bound true_host set h holds by all limit fits in
-    let first = grows-both set limit past here roomed c.args.store.now c.loop-beat.store c.make_room.new.store so_far (c.make_room.ensures.bound true_host set (onto h (take n more)) was.added.holds was.added.left_by limit few) in
+    let first = grows-both set limit past here roomed c.args.store.now c.loop-beat.store c.make_room.new.store so_far (c.make_room.ensures.bound true_host set (onto h (take n more)) was.added.holds was.added.left_by limit fits) in
     first
 
 pub returns-in_err-more-clause-bound : goal.returns-in_err-more-clause-bound
@@ -216,9 +212,8 @@ returns-in_err-more-clause-bound g c true_host set h holds by all limit fits =
     let here = (g.H.Host.seen c.loop-beat.host).past in
     let roomed = (g.H.Host.seen c.make_room.new.host).past in
     let was = c.loop-beat.invariant.stored true_host set h holds by all in
-    let few = subst (λ (gaps : List GapSpan). side_limit (length gaps) ≤ limit) (sym c.loop-beat.invariant.gaps) fits in
     let so_far = c.loop-beat.invariant.bound true_host set h holds by all limit fits in
-    let first = grows-both set limit past here roomed c.args.store.now c.loop-beat.store c.make_room.new.store so_far (c.make_room.ensures.bound true_host set (onto h (take n more)) was.added.holds was.added.left_by limit few) in
+    let first = grows-both set limit past here roomed c.args.store.now c.loop-beat.store c.make_room.new.store so_far (c.make_room.ensures.bound true_host set (onto h (take n more)) was.added.holds was.added.left_by limit fits) in
     let room = c.in_ok-make_room.ensures.done true_host set (onto h (take n more)) was.added.holds was.added.left_by in
     grows-both set limit past roomed (g.H.Host.seen c.add_copy.new.host).past c.args.store.now c.make_room.new.store c.add_copy.new.store first (c.add_copy.ensures.bound true_host set (onto h (take n more)) room limit)
 
@@ -232,8 +227,7 @@ returns-in_err-add_events-clause-bound g c true_host set h holds by all limit fi
     let here = (g.H.Host.seen c.loop-beat.host).past in
     let roomed = (g.H.Host.seen c.make_room.new.host).past in
     let was = c.loop-beat.invariant.stored true_host set h holds by all in
-    let few = subst (λ (gaps : List GapSpan). side_limit (length gaps) ≤ limit) (sym c.loop-beat.invariant.gaps) fits in
     let so_far = c.loop-beat.invariant.bound true_host set h holds by all limit fits in
-    let first = grows-both set limit past here roomed c.args.store.now c.loop-beat.store c.make_room.new.store so_far (c.make_room.ensures.bound true_host set (onto h (take n more)) was.added.holds was.added.left_by limit few) in
+    let first = grows-both set limit past here roomed c.args.store.now c.loop-beat.store c.make_room.new.store so_far (c.make_room.ensures.bound true_host set (onto h (take n more)) was.added.holds was.added.left_by limit fits) in
     let room = c.in_ok-make_room.ensures.done true_host set (onto h (take n more)) was.added.holds was.added.left_by in
     grows-both set limit past roomed (g.H.Host.seen c.add_copy.new.host).past c.args.store.now c.make_room.new.store c.add_copy.new.store first (c.add_copy.ensures.bound true_host set (onto h (take n more)) room limit)

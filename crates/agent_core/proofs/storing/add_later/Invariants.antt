@@ -1,12 +1,12 @@
-use Rattle.std.proofs.Common.{◌≡◌, ◌≤◌, ℕ, List, None, length, take}
+use Rattle.std.proofs.Common.{◌≡◌, ◌≤◌, ℕ, List, None, take}
 use Rattle.history.specs.History.{Beat}
 use Rattle.alarm_core.specs.UpTo.{IsUpTo}
-use Rattle.side_codec.specs.Size.{side_limit}
 use Rattle.tier_settings.specs.declared.settings.Settings.{Settings}
 use Rattle.replication.specs.Copies.{latest as latest_of}
 use Rattle.replication.specs.Names.{beat_moment}
 use Rattle.store_core.specs.disk.Holds.{OnlyOwn}
 use Rattle.store_core.specs.Store.{IsReady, IsReplayed}
+use Rattle.agent_core.specs.Gaps.{side_share}
 use Rattle.agent_core.specs.declared.left.Role.TheVariants.{Copies}
 use Rattle.agent_core.specs.Bound.{GrowsWithin}
 use Rattle.agent_core.specs.Stands.{HoldsHistory}
@@ -29,7 +29,7 @@ invariant-loop-beat g l = record {
   last : l.store.tiers.last ≡ latest_of beat_moment l.initial.store.tiers.last (take l.beat-index l.beats);
   settings : l.store.body.settings ≡ l.initial.store.body.settings;
   bound : g.H.Host.honest → (set : Settings) (h : List Beat) → HoldsHistory (g.H.Host.seen l.initial.host).past l.initial.store set h → IsLeftBy set h l.initial.left
-      → MayTakeAll h (later_copies l.initial.left.registry l.message l.beats) → (limit : ℕ) → side_limit (length l.initial.left.gaps) ≤ limit
+      → MayTakeAll h (later_copies l.initial.left.registry l.message l.beats) → (limit : ℕ) → side_share set ≤ limit
       → GrowsWithin set limit (g.H.Host.seen l.initial.host).past l.initial.store (g.H.Host.seen l.host).past l.store;
   gaps : l.left.gaps ≡ l.initial.left.gaps;
   only_here : g.H.Host.honest → OnlyOwn (g.H.Host.seen l.initial.host).past (g.H.Host.seen l.host).past;

@@ -1,4 +1,4 @@
-use Rattle.std.proofs.Common.{◌≡◌, ◌<◌, List, Ok, Err, length, refl, sym, ap, subst, ◌∙◌, ◌≤◌, arith}
+use Rattle.std.proofs.Common.{◌≡◌, ◌<◌, List, Ok, Err, length, refl, sym, ap, subst, ◌∙◌}
 use Rattle.std.proofs.lemmas.Result.{err_from_is_err_and, IfOk-weaker}
 use Rattle.host_model.specs.Disks.{EveryDisk}
 use Rattle.host_model.specs.Moments.{begins, Throughout}
@@ -16,12 +16,10 @@ use Rattle.agent_core.specs.Storing.{gap_beats, sent_copies, with_names, HasAdde
 use Rattle.agent_core.proofs.PrefixLemmas.{prefix-none, message-added, message-before, message-behind, message-takes}
 use Rattle.agent_core.proofs.KeepsLemmas.{keeps-after, keeps-both, keeps-err}
 use Rattle.agent_core.proofs.KeptLemmas.{stays, store-last}
-use Rattle.agent_core.proofs.Outcomes.{on_ok, always}
+use Rattle.agent_core.proofs.Outcomes.{on_ok}
 use Rattle.agent_core.proofs.StoredLemmas.{were_kept}
 use Rattle.agent_core.proofs.TakenLemmas.{defined-has, defined-open}
 use Rattle.agent_core.proofs.Within.{within-of}
-use Rattle.side_codec.specs.declared.gap.GapSpan.{GapSpan}
-use Rattle.side_codec.specs.Size.{side_limit}
 use Rattle.agent_core.proofs.BoundLemmas.{grows-both, grows-none}
 use Rattle.agent_core.proofs.storing.add_message.Goals as goal
 
@@ -158,7 +156,7 @@ returns-in_default-clause-bound g c true_host set h holds was role limit fits =
 
 pub returns-in_err-add_gap_before-clause-bound : goal.returns-in_err-add_gap_before-clause-bound
 returns-in_err-add_gap_before-clause-bound g c true_host set h holds was role limit fits =
-    c.add_gap_before.ensures.bound true_host set h holds was limit (omega (arith, fits))
+    c.add_gap_before.ensures.bound true_host set h holds was limit fits
 
 pub returns-in_err-make_room-clause-bound : goal.returns-in_err-make_room-clause-bound
 returns-in_err-make_room-clause-bound g c true_host set h holds was role limit fits =
@@ -168,10 +166,8 @@ returns-in_err-make_room-clause-bound g c true_host set h holds was role limit f
     let behind = onto h (gap_beats c.args.message.now) in
     let kept = c.in_ok-add_gap_before.ensures.done true_host set h holds was role in
     let left = c.in_ok-add_gap_before.ensures.left_by past set h holds was in
-    let grown = c.in_ok-add_gap_before.ensures.few in
-    let few : side_limit (length c.add_gap_before.new.left.gaps) ≤ limit = omega (arith, fits, grown) in
-    let room = grows-both set limit past middle roomed c.args.store.now c.add_gap_before.new.store c.make_room.new.store (c.add_gap_before.ensures.bound true_host set h holds was limit (omega (arith, fits)))
-    (c.make_room.ensures.bound true_host set behind kept left limit few) in
+    let room = grows-both set limit past middle roomed c.args.store.now c.add_gap_before.new.store c.make_room.new.store (c.add_gap_before.ensures.bound true_host set h holds was limit fits)
+    (c.make_room.ensures.bound true_host set behind kept left limit fits) in
     room
 
 pub returns-in_err-defines-clause-bound : goal.returns-in_err-defines-clause-bound
@@ -182,10 +178,8 @@ returns-in_err-defines-clause-bound g c true_host set h holds was role limit fit
     let behind = onto h (gap_beats c.args.message.now) in
     let kept = c.in_ok-add_gap_before.ensures.done true_host set h holds was role in
     let left = c.in_ok-add_gap_before.ensures.left_by past set h holds was in
-    let grown = c.in_ok-add_gap_before.ensures.few in
-    let few : side_limit (length c.add_gap_before.new.left.gaps) ≤ limit = omega (arith, fits, grown) in
-    let room = grows-both set limit past middle roomed c.args.store.now c.add_gap_before.new.store c.make_room.new.store (c.add_gap_before.ensures.bound true_host set h holds was limit (omega (arith, fits)))
-    (c.make_room.ensures.bound true_host set behind kept left limit few) in
+    let room = grows-both set limit past middle roomed c.args.store.now c.add_gap_before.new.store c.make_room.new.store (c.add_gap_before.ensures.bound true_host set h holds was limit fits)
+    (c.make_room.ensures.bound true_host set behind kept left limit fits) in
     room
 
 pub returns-clause-bound : goal.returns-clause-bound
@@ -209,14 +203,6 @@ returns-clause-bound g c true_host set h holds was role limit fits =
     let was_kept = c.in_ok-add_gap_before.ensures.done true_host set h holds was role in
     let left = c.in_ok-add_gap_before.ensures.left_by past set h holds was in
     let kept = c.in_ok-make_room.ensures.done true_host set behind was_kept left in
-    let grown = c.in_ok-add_gap_before.ensures.few in
-    let few : side_limit (length gone.gaps) ≤ limit = omega (arith, fits, grown) in
-    let room = grows-both set limit past middle roomed c.args.store.now c.add_gap_before.new.store c.make_room.new.store (c.add_gap_before.ensures.bound true_host set h holds was limit (omega (arith, fits)))
-    (c.make_room.ensures.bound true_host set behind was_kept left limit few) in
-    grows-both set limit past roomed new c.args.store.now c.make_room.new.store c.add_beats.new.store room (c.add_beats.ensures.bound true_host gone.registry set behind kept left defined all limit few)
-
-pub returns-clause-few : goal.returns-clause-few
-returns-clause-few g c =
-    let same = ap (λ (gaps : List GapSpan). length gaps) c.add_beats.ensures.gaps in
-    let grown = c.in_ok-add_gap_before.ensures.few in
-    always _ c.add_beats.result (omega (arith, same, grown))
+    let room = grows-both set limit past middle roomed c.args.store.now c.add_gap_before.new.store c.make_room.new.store (c.add_gap_before.ensures.bound true_host set h holds was limit fits)
+    (c.make_room.ensures.bound true_host set behind was_kept left limit fits) in
+    grows-both set limit past roomed new c.args.store.now c.make_room.new.store c.add_beats.new.store room (c.add_beats.ensures.bound true_host gone.registry set behind kept left defined all limit fits)

@@ -1,4 +1,4 @@
-use Rattle.std.proofs.Common.{◌≡◌, ◌∷◌, ◌∙◌, inl, sym, ap, subst, ◌≤◌, length}
+use Rattle.std.proofs.Common.{◌≡◌, ◌∷◌, ◌∙◌, inl, sym, ap, subst}
 use Rattle.host_model.proofs.DiskLemmas.{disks_weaker}
 use Rattle.history.specs.History.{collected}
 use Rattle.history.specs.Numbered.{numbered_beat}
@@ -14,7 +14,6 @@ use Rattle.agent_core.specs.Stands.{HoldsHistory}
 use Rattle.agent_core.proofs.KeepsLemmas.{keeps-both, limits-with_beat}
 use Rattle.agent_core.proofs.KeptLemmas.{numbered-at, then-either}
 use Rattle.agent_core.proofs.Outcomes.{always, on_ok}
-use Rattle.side_codec.specs.Size.{side_limit}
 use Rattle.agent_core.specs.Bound.{GrowsWithin}
 use Rattle.agent_core.proofs.BoundLemmas.{grows-both}
 use Rattle.agent_core.proofs.agent.Agent.add_beat.Goals as goal
@@ -120,18 +119,16 @@ returns-in_err-make_room-clause-bound g c true_host set h holds was limit fits =
     let past = (g.H.Host.seen c.args.host.now).past in
     let kept = subst (λ (a : AgentState). HoldsHistory past a.store set h) (sym c.self.view_is) holds in
     let left = subst (λ (a : AgentState). IsLeftBy set h (left_in a)) (sym c.self.view_is) was in
-    let few = subst (λ (a : AgentState). side_limit (length a.gaps) ≤ limit) (sym c.self.view_is) fits in
     subst (λ (a : AgentState). GrowsWithin set limit past a.store (g.H.Host.seen c.make_room.new.host).past c.make_room.new.store) c.self.view_is
-    (c.make_room.ensures.bound true_host set h kept left limit few)
+    (c.make_room.ensures.bound true_host set h kept left limit fits)
 
 pub returns-in-Err-clause-bound : goal.returns-in-Err-clause-bound
 returns-in-Err-clause-bound g c true_host set h holds was limit fits =
     let past = (g.H.Host.seen c.args.host.now).past in
     let kept = subst (λ (a : AgentState). HoldsHistory past a.store set h) (sym c.self.view_is) holds in
     let left = subst (λ (a : AgentState). IsLeftBy set h (left_in a)) (sym c.self.view_is) was in
-    let few = subst (λ (a : AgentState). side_limit (length a.gaps) ≤ limit) (sym c.self.view_is) fits in
     subst (λ (a : AgentState). GrowsWithin set limit past a.store (g.H.Host.seen c.make_room.new.host).past c.make_room.new.store) c.self.view_is
-    (c.make_room.ensures.bound true_host set h kept left limit few)
+    (c.make_room.ensures.bound true_host set h kept left limit fits)
 
 pub returns-in-Ok-clause-bound : goal.returns-in-Ok-clause-bound
 returns-in-Ok-clause-bound g c true_host set h holds was limit fits =
@@ -140,10 +137,9 @@ returns-in-Ok-clause-bound g c true_host set h holds was limit fits =
     let new = (g.H.Host.seen c.add.new.host).past in
     let kept = subst (λ (a : AgentState). HoldsHistory past a.store set h) (sym c.self.view_is) holds in
     let left = subst (λ (a : AgentState). IsLeftBy set h (left_in a)) (sym c.self.view_is) was in
-    let few = subst (λ (a : AgentState). side_limit (length a.gaps) ≤ limit) (sym c.self.view_is) fits in
     let room = c.in_ok-make_room.ensures.done true_host set h kept left in
     subst (λ (a : AgentState). GrowsWithin set limit past a.store new c.add.new.store) c.self.view_is
-    (grows-both set limit past middle new c.self.inside.store c.make_room.new.store c.add.new.store (c.make_room.ensures.bound true_host set h kept left limit few) (c.add.ensures.bound true_host set h room limit))
+    (grows-both set limit past middle new c.self.inside.store c.make_room.new.store c.add.new.store (c.make_room.ensures.bound true_host set h kept left limit fits) (c.add.ensures.bound true_host set h room limit))
 
 pub returns-in-Ok-clause-gaps : goal.returns-in-Ok-clause-gaps
 returns-in-Ok-clause-gaps g c = c.add.ensures.gaps ∙ ap (λ (a : AgentState). a.gaps) c.self.view_is

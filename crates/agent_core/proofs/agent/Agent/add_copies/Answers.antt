@@ -1,4 +1,4 @@
-use Rattle.std.proofs.Common.{◌≡◌, ◌+◌, true, sym, ap, subst, ◌∙◌, ◌≤◌, length, arith}
+use Rattle.std.proofs.Common.{◌≡◌, ◌+◌, true, sym, ap, subst, ◌∙◌}
 use Rattle.host_model.specs.Disks.{EveryDisk}
 use Rattle.host_model.specs.Moments.{Throughout}
 use Rattle.store_core.specs.Counts.{counted}
@@ -9,9 +9,7 @@ use Rattle.agent_core.specs.Left.{IsLeftBy}
 use Rattle.agent_core.specs.Roles.{may_copy, role_of}
 use Rattle.agent_core.specs.Storing.{HasAdded}
 use Rattle.agent_core.proofs.CopyCalls.{agent-copied, nothing-against}
-use Rattle.side_codec.specs.Size.{side_limit}
 use Rattle.agent_core.specs.Bound.{GrowsWithin}
-use Rattle.agent_core.proofs.KeepsLemmas.{spent-never}
 use Rattle.agent_core.proofs.agent.Agent.add_copies.Goals as goal
 
 pub returns-in-Ok-clause-done : goal.returns-in-Ok-clause-done
@@ -88,8 +86,7 @@ returns-in-Ok-clause-bound g c true_host set h is_of limit fits =
     let holds = subst (λ (a : AgentState). HoldsHistory past a.store set h) (sym c.self.view_is) is_of.holds in
     let was = subst (λ (a : AgentState). IsLeftBy set h (left_in a)) (sym c.self.view_is) is_of.left_by in
     let copies : may_copy (role_of h) ≡ true = ap may_copy (sym is_of.left_by.role_is) ∙ (nothing-against agent.registry agent.role c.args.message.now c.requires.free).0 in
-    let few = subst (λ (a : AgentState). side_limit (length a.gaps + 1) ≤ limit) (sym c.self.view_is) fits in
-    subst (λ (a : AgentState). GrowsWithin set limit past a.store new c.add_message-added.new.store) c.self.view_is (c.add_message-added.ensures.bound true_host set h holds was copies limit few)
+    subst (λ (a : AgentState). GrowsWithin set limit past a.store new c.add_message-added.new.store) c.self.view_is (c.add_message-added.ensures.bound true_host set h holds was copies limit fits)
 
 pub returns-in-Err-clause-bound : goal.returns-in-Err-clause-bound
 returns-in-Err-clause-bound g c true_host set h is_of limit fits =
@@ -99,14 +96,4 @@ returns-in-Err-clause-bound g c true_host set h is_of limit fits =
     let holds = subst (λ (a : AgentState). HoldsHistory past a.store set h) (sym c.self.view_is) is_of.holds in
     let was = subst (λ (a : AgentState). IsLeftBy set h (left_in a)) (sym c.self.view_is) is_of.left_by in
     let copies : may_copy (role_of h) ≡ true = ap may_copy (sym is_of.left_by.role_is) ∙ (nothing-against agent.registry agent.role c.args.message.now c.requires.free).0 in
-    let few = subst (λ (a : AgentState). side_limit (length a.gaps + 1) ≤ limit) (sym c.self.view_is) fits in
-    subst (λ (a : AgentState). GrowsWithin set limit past a.store new c.add_message-added.new.store) c.self.view_is (c.add_message-added.ensures.bound true_host set h holds was copies limit few)
-
-pub returns-in-Ok-clause-few : goal.returns-in-Ok-clause-few
-returns-in-Ok-clause-few g c going =
-    let same = ap (λ (a : AgentState). length a.gaps) c.self.view_is in
-    let grown = c.in-Ok.ensures.few in
-    omega (arith, same, grown)
-
-pub returns-in-Err-clause-few : goal.returns-in-Err-clause-few
-returns-in-Err-clause-few g c none = absurd (spent-never c.in-Err.fault c.in-Err.ensures.keeps.faults (sym c.cause-self-inside.ensures ∙ none))
+    subst (λ (a : AgentState). GrowsWithin set limit past a.store new c.add_message-added.new.store) c.self.view_is (c.add_message-added.ensures.bound true_host set h holds was copies limit fits)

@@ -1,4 +1,4 @@
-use Rattle.std.proofs.Common.{◌≡◌, ◌∷◌, ◌∙◌, None, ap, sym, subst, ◌≤◌, length, refl, rules}
+use Rattle.std.proofs.Common.{◌≡◌, ◌∷◌, ◌∙◌, None, ap, sym, subst, refl, rules}
 use Rattle.std.proofs.lemmas.Result.{IfOk-weaker}
 use Rattle.host_model.specs.Disks.{EveryDisk}
 use Rattle.host_model.specs.Moments.{begins, Throughout}
@@ -13,7 +13,6 @@ use Rattle.agent_core.proofs.HealthLemmas.{read-accepted, read-short}
 use Rattle.agent_core.proofs.KeepsLemmas.{spent-never, told-ready}
 use Rattle.agent_core.proofs.KeptLemmas.{agent-more, health-awaits, health-moments, health-nothing}
 use Rattle.agent_core.proofs.Outcomes.{on_both}
-use Rattle.side_codec.specs.Size.{side_limit}
 use Rattle.agent_core.specs.Bound.{GrowsWithin}
 use Rattle.agent_core.proofs.BoundLemmas.{grows-still}
 use Rattle.agent_core.proofs.agent.Agent.change_health.Goals as goal
@@ -136,20 +135,18 @@ returns-in-Ok-add_health-clause-bound g c true_host set h is_of limit fits =
     let past = (g.H.Host.seen c.args.host.now).past in
     let mine = subst (λ (a : AgentState). HoldsHistory past a.store set h) (sym c.self.view_is) is_of.holds in
     let was = subst (λ (a : AgentState). IsLeftBy set h (left_in a)) (sym c.self.view_is) is_of.left_by in
-    let few = subst (λ (a : AgentState). side_limit (length a.gaps) ≤ limit) (sym c.self.view_is) fits in
     subst (λ (a : AgentState). GrowsWithin set limit past a.store (g.H.Host.seen c.tell.new.host).past c.tell.new.self.store) c.self.view_is
     (subst (λ (store : StoreState). GrowsWithin set limit past c.self.inside.store (g.H.Host.seen c.tell.new.host).past store) (sym c.tell.ensures.store)
     (subst (λ (s : Seen). GrowsWithin set limit past c.self.inside.store s.past c.add_health.new.store) (sym c.tell.ensures.host)
-    (c.add_health.ensures.bound true_host set h mine was limit few)))
+    (c.add_health.ensures.bound true_host set h mine was limit fits)))
 
 pub returns-in-Err-add_health-clause-bound : goal.returns-in-Err-add_health-clause-bound
 returns-in-Err-add_health-clause-bound g c true_host set h is_of limit fits =
     let past = (g.H.Host.seen c.args.host.now).past in
     let mine = subst (λ (a : AgentState). HoldsHistory past a.store set h) (sym c.self.view_is) is_of.holds in
     let was = subst (λ (a : AgentState). IsLeftBy set h (left_in a)) (sym c.self.view_is) is_of.left_by in
-    let few = subst (λ (a : AgentState). side_limit (length a.gaps) ≤ limit) (sym c.self.view_is) fits in
     subst (λ (a : AgentState). GrowsWithin set limit past a.store (g.H.Host.seen c.add_health.new.host).past c.add_health.new.store) c.self.view_is
-    (c.add_health.ensures.bound true_host set h mine was limit few)
+    (c.add_health.ensures.bound true_host set h mine was limit fits)
 
 pub returns-in-Ok-add_health-clause-gaps : goal.returns-in-Ok-add_health-clause-gaps
 returns-in-Ok-add_health-clause-gaps g c = c.tell.ensures.gaps ∙ ap (λ (a : AgentState). a.gaps) c.self.view_is

@@ -109,9 +109,9 @@ returns-in_err-side-clause-bound g c limit fits true_host within = begins within
 pub returns-in-Ok-clause-bound : goal.returns-in-Ok-clause-bound
 returns-in-Ok-clause-bound g c limit fits =
     let left = c.in_ok-left.ensures.left c.args.settings.now in
-    c.create.ensures.bound limit (new-short c.args.settings.now c.in_ok-left.left left c.in_ok-side.side c.in_ok-side.ensures.size limit fits)
+    c.create.ensures.bound limit (new-short c.args.settings.now c.in_ok-left.left 0 left c.in_ok-side.side c.in_ok-side.ensures.size limit fits)
 
 pub returns-in-Err-clause-bound : goal.returns-in-Err-clause-bound
 returns-in-Err-clause-bound g c limit fits =
     let left = c.in_ok-left.ensures.left c.args.settings.now in
-    c.create.ensures.bound limit (new-short c.args.settings.now c.in_ok-left.left left c.in_ok-side.side c.in_ok-side.ensures.size limit fits)
+    c.create.ensures.bound limit (new-short c.args.settings.now c.in_ok-left.left 0 left c.in_ok-side.side c.in_ok-side.ensures.size limit fits)

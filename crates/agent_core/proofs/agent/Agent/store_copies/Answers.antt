@@ -1,4 +1,4 @@
-use Rattle.std.proofs.Common.{rules, ◌≡◌, ◌+◌, List, length, None, Some, true, false, Bool, subst, sym, ap, ◌∙◌, if◌then◌else◌, refl, arith}
+use Rattle.std.proofs.Common.{rules, ◌≡◌, ◌+◌, List, length, None, Some, true, false, Bool, subst, sym, ap, ◌∙◌, if◌then◌else◌, refl}
 use Rattle.host_model.specs.Disks.{EveryDisk}
 use Rattle.host_model.specs.Moments.{Throughout}
 use Rattle.history.specs.History.{Beat as HistoryBeat}
@@ -110,9 +110,3 @@ returns-then-not-is_stored-clause-bound g c true_host set h is_of limit fits = l
 
 pub returns-in-Some-copy_refusal-clause-bound : goal.returns-in-Some-copy_refusal-clause-bound
 returns-in-Some-copy_refusal-clause-bound g c true_host set h is_of limit fits = let past = (g.H.Host.seen c.args.host.now).past in grows-still set limit past past _ _ refl (search rules)
-
-pub returns-then-not-is_stored-clause-few : goal.returns-then-not-is_stored-clause-few
-returns-then-not-is_stored-clause-few g c going = let same = ap (λ (a : AgentState). length a.gaps) c.self.view_is in omega (arith, same)
-
-pub returns-in-Some-copy_refusal-clause-few : goal.returns-in-Some-copy_refusal-clause-few
-returns-in-Some-copy_refusal-clause-few g c going = let same = ap (λ (a : AgentState). length a.gaps) c.self.view_is in omega (arith, same)

@@ -1,7 +1,6 @@
-use Rattle.std.proofs.Common.{[], ◌∷◌, length, IsSome, Option, ℕ, refl, sym, subst}
+use Rattle.std.proofs.Common.{IsSome, Option, ℕ, refl, sym, subst}
 use Rattle.link_session.specs.Parent.{parent_does}
 use Rattle.link_session.specs.Receiving.{ParentTakes}
-use Rattle.link_session.specs.Steps.{data_in}
 use Rattle.link_session.specs.Exchange.{SessionResult}
 use Rattle.link_session.specs.Taking.{EndsOnlyAt, ParentEndsBy}
 use Rattle.link_session.proofs.TakingLemmas.{known-after}
@@ -9,12 +8,12 @@ use Rattle.link_session.proofs.parent.Parent.take_frame.Goals as goal
 
 pub returns-in-Some-clause-takes : goal.returns-in-Some-clause-takes
 returns-in-Some-clause-takes g c =
-    subst (λ (peer : Option ℕ). ParentTakes g.H.Host.honest (g.H.Host.seen c.args.host.now) c.args.agent.now (length (data_in (c.args.frame.now ∷ []))) (λ set h. parent_does set (record { history = h; peer = peer }) c.args.frame.now)
+    subst (λ (peer : Option ℕ). ParentTakes g.H.Host.honest (g.H.Host.seen c.args.host.now) c.args.agent.now (λ set h. parent_does set (record { history = h; peer = peer }) c.args.frame.now)
     c.hear_next.result (g.H.Host.seen c.hear_next.new.host) c.hear_next.new.agent peer (g.L.Link.sent c.args.link.now) (g.L.Link.sent c.hear_next.new.link)) (sym c.in-Some.is) c.hear_next.ensures.takes
 
 pub returns-in-None-clause-takes : goal.returns-in-None-clause-takes
 returns-in-None-clause-takes g c =
-    subst (λ (peer : Option ℕ). ParentTakes g.H.Host.honest (g.H.Host.seen c.args.host.now) c.args.agent.now (length (data_in (c.args.frame.now ∷ []))) (λ set h. parent_does set (record { history = h; peer = peer }) c.args.frame.now)
+    subst (λ (peer : Option ℕ). ParentTakes g.H.Host.honest (g.H.Host.seen c.args.host.now) c.args.agent.now (λ set h. parent_does set (record { history = h; peer = peer }) c.args.frame.now)
     c.hear_first.result (g.H.Host.seen c.hear_first.new.host) c.hear_first.new.agent c.hear_first.new.self.peer (g.L.Link.sent c.args.link.now) (g.L.Link.sent c.hear_first.new.link)) (sym c.in-None.is) c.hear_first.ensures.takes
 
 pub returns-in-Some-clause-ends : goal.returns-in-Some-clause-ends
