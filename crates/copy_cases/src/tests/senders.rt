@@ -54,8 +54,8 @@ fn session_of(
     let asked = asked(alloc)?;
     let end = talk_over(alloc, child, SEND, asked.as_slice(), fails)?;
     let whole = second_session(alloc)?;
-    let is_front = may_send(&end, whole.as_slice());
-    Ok((end, is_front))
+    let is_prefix = may_send(&end, whole.as_slice());
+    Ok((end, is_prefix))
 }
 
 /// The first call on the host that the session makes: each earlier one is of a command that is
@@ -76,10 +76,10 @@ fn first_call(alloc: Global) -> Result<u64, Fail> {
 /// once the child has crashed and was run again.
 fn ending_at(alloc: Global, fails: u64, keep: Keep) -> Result<(Status, bool), Fail> {
     let mut child = found(child_at(alloc, &[fails], 12)?)?;
-    let (end, is_front) = session_of(alloc, &mut child, &[])?;
+    let (end, is_prefix) = session_of(alloc, &mut child, &[])?;
     let mut child = child.stop(keep)?;
     let is_copy = is_copied(alloc, &mut child, end.sent.as_slice())?;
-    Ok((end.status, is_front && is_copy))
+    Ok((end.status, is_prefix && is_copy))
 }
 
 /// How many of the calls end the session as a failure of the disk, and the first call with which
@@ -111,9 +111,9 @@ fn a_child_whose_host_fails(rt: HostRuntime) -> Result<(), Fail> {
 /// once the child was run again.
 fn link_ending_at(alloc: Global, fails: u64) -> Result<(Status, bool), Fail> {
     let mut child = found(child_at(alloc, &[], 12)?)?;
-    let (end, is_front) = session_of(alloc, &mut child, &[fails])?;
+    let (end, is_prefix) = session_of(alloc, &mut child, &[fails])?;
     let is_copy = is_copied(alloc, &mut child, end.sent.as_slice())?;
-    Ok((end.status, is_front && is_copy))
+    Ok((end.status, is_prefix && is_copy))
 }
 
 /// Hello is sent, all is received in one piece, and then a Data and a Bye are sent.
