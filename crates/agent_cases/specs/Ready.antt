@@ -1,13 +1,8 @@
--- Which stores and which agents may be called.
+-- Which stores may be called.
 use Rattle.host_model.specs.declared.memory_host.MemoryHost.{MemoryHost}
 use Rattle.host_model.specs.MemoryHost.{state_of}
 use Rattle.store_core.specs.Store.{IsReady, StoreState}
-use Rattle.agent_core.specs.Agent.{AgentIsReady, AgentState}
 
 -- what a call of a store requires of this host
 abbrev pub IsReadyOn : MemoryHost → StoreState → Type 0
 IsReadyOn host store = IsReady (Unit {0}) (state_of host).past store
-
--- what a call of an agent requires of this host
-abbrev pub AgentIsReadyOn : MemoryHost → AgentState → Type 0
-AgentIsReadyOn host agent = AgentIsReady (Unit {0}) (state_of host).past agent

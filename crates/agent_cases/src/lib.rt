@@ -1,5 +1,5 @@
-//! The tests of an agent's calls, and tests only, on hosts in memory: which databases it opens, by bytes by hand of their
-//! sides, notes and journals, and how it copies a child.
+//! The tests of which databases an agent opens, and tests only: bytes by hand of their sides, notes and journals, on a
+//! host in memory.
 #![tactic(auto)]
 
 #[cfg(test)]

@@ -6,7 +6,6 @@ use host_model::{CallList, File, Host, MemoryHost};
 use std::alloc::{AllocError, Global};
 use std::test::Fail;
 
-mod copies;
 mod opening;
 
 /// The most items, and the most segments, that a tier may have.
