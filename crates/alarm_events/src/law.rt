@@ -5,7 +5,7 @@ ghost use Rattle.alarm_events.specs.Alarms.{alarms_bytes, read_alarms, read_kept
 
 /// The law of kept alarms: a spelling reads as its alarms, with nothing left, and what bytes read as has them
 /// as its spelling. So two never share a spelling. It does nothing.
-pub fn every_kept()
+pub fn kept_alarms_round_trip()
     ensures reads_back { (kept : KeptAlarms) → HasSpelling kept
         → read_alarms (alarms_bytes kept) ≡ Some kept }
     ensures has_spelling { (kept : KeptAlarms) (bytes : List ℕ) → IsBytes bytes

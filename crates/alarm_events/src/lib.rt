@@ -39,7 +39,7 @@ pub use event::{Event, EventList, value_text, write_event};
 pub use fault::AlarmFault;
 pub use kept::{KeptAlarms, MOST_STATES};
 pub use kept_fault::KeptFault;
-pub use law::every_kept;
+pub use law::kept_alarms_round_trip;
 pub use log::{EventLog, Log, SHOWN};
 pub use reading::{read_alarms, take_alarms};
 pub use short::is_short;

@@ -31,18 +31,19 @@ pub struct EventLog {
 impl Model for EventLog {
     ghost use Rattle.std.specs.Prelude.{◌≡◌, ◌≤◌, length};
     ghost use Rattle.alarm_events.specs.Log.{Shown};
+    ghost use Rattle.alarm_events.specs.declared.log.TheConstants.{SHOWN};
 
     ghost Value = { Shown };
 
     ghost view = { λ log. record { dropped = log.dropped; events = log.shown.items } };
 
-    ghost invariant = { λ log. (log.shown.capacity ≡ 1000) × (length log.shown.items ≤ 1000) };
+    ghost invariant = { λ log. (log.shown.capacity ≡ SHOWN) × (length log.shown.items ≤ SHOWN) };
 }
 
 /// A ring with room for all events that a log shows.
 fn empty_ring(alloc: Global) -> Result<HeapCircularBuffer<Event>, AlarmFault>
     ensures items { IfOk result (λ ring. ring.items ≡ []) }
-    ensures capacity { IfOk result (λ ring. ring.capacity ≡ 1000) }
+    ensures capacity { IfOk result (λ ring. ring.capacity ≡ SHOWN) }
 {
     Ok(HeapCircularBuffer::with_capacity(alloc, SHOWN)?)
 }
@@ -95,7 +96,7 @@ impl EventLog {
     /// The log that shows these events, of which there are at most 1,000, behind so many. `Memory` where none
     /// is left.
     pub fn showing(alloc: Global, dropped: u64, events: &[Event]) -> Result<EventLog, AlarmFault>
-        requires { length events.now ≤ 1000 }
+        requires { length events.now ≤ SHOWN }
         ensures { IfOk result (λ log. log ≡ record { dropped = dropped; events = events.now }) }
     {
         let mut shown = empty_ring(alloc)?;

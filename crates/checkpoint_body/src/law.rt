@@ -30,7 +30,7 @@ pub fn record_pages_give_records_back()
 /// The law of bodies: a spelling reads as its body, and what bytes read as has them as its
 /// spelling. So two bodies never share a spelling. A spelling has as many bytes as the settings and
 /// the side allow, at most. It does nothing.
-pub fn every_body()
+pub fn bodies_round_trip()
     ensures reads_back { (b : ABody) → HasSpelling b → read_body (body_bytes b) ≡ Some b }
     ensures has_spelling { (b : ABody) (bytes : List ℕ) → IsBytes bytes
         → read_body bytes ≡ Some b → HasSpelling b }

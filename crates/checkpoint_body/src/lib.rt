@@ -41,7 +41,7 @@ pub use body::{Body, Extent, ExtentList, OpenRecord, OpenRecordList, PointTier, 
 pub use canonical::{are_record_pages, are_slot_pages};
 pub use fault::BodyFault;
 pub use item::{BucketRecord, BucketRecordList, Point, PointList};
-pub use law::{every_body, record_pages_give_records_back, slot_pages_give_points_back};
+pub use law::{bodies_round_trip, record_pages_give_records_back, slot_pages_give_points_back};
 pub use page::{RecordList, RecordPage, RecordPageList, SlotPage, SlotPageList, WordList};
 pub use reading::read_body;
 pub use records::{record_pages, records_of};

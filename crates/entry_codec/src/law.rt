@@ -7,7 +7,7 @@ ghost use Rattle.entry_codec.specs.Entries.{entry_bytes, read_entry, HasSpelling
 
 /// The law of entries: a spelling reads as its entry, with nothing left, and what bytes read as has them
 /// as its spelling. So two entries never share a spelling.
-pub fn every_entry()
+pub fn entries_round_trip()
     ensures reads_back { (e : Entry) → HasSpelling e → read_entry (entry_bytes e) ≡ Ok e }
     ensures has_spelling { (e : Entry) (bytes : List ℕ) → IsBytes bytes → read_entry bytes ≡ Ok e
         → HasSpelling e }

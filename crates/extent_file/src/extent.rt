@@ -7,6 +7,7 @@ ghost use Rattle.extent_file.specs.declared.entry.Entry.{Entry as AnEntry};
 ghost use Rattle.extent_file.specs.Directory.{IsDirectory, bytes_of};
 ghost use Rattle.extent_file.specs.Find.{is_wanted};
 ghost use Rattle.extent_file.specs.Slot.{tier_of};
+ghost use Rattle.page_pool.specs.declared.node.TheConstants.{PAGE_SIZE};
 
 use crate::entry::Entry;
 use crate::fault::ExtentFault;
@@ -62,7 +63,7 @@ impl Extent {
         requires { index < length self.now.entries }
         ensures entry { slice_get self.now.entries index ≡ Some result }
         ensures some { 0 < bytes_of (tier_of self.now.file) result }
-        ensures most { bytes_of (tier_of self.now.file) result ≤ 4096 }
+        ensures most { bytes_of (tier_of self.now.file) result ≤ PAGE_SIZE }
         ensures place { self.now.start + result.place < 2 ^ 41 }
         ensures step { 0 < result.step }
         ensures count { 0 < result.count }

@@ -7,7 +7,7 @@ ghost use Rattle.field_codec.specs.Spelling.{u8_bytes, u16_bytes, u32_bytes, u64
 
 /// The law of each kind of field: a spelling reads as its value, whatever follows, and what is read of
 /// bytes is what they begin with. So two values never share a spelling, and none is the prefix of another.
-pub fn every_field()
+pub fn fields_round_trip()
     ensures u8 { IsField (λ n. n < 2 ^ 8) u8_bytes read_u8 }
     ensures u16 { IsField (λ n. n < 2 ^ 16) u16_bytes read_u16 }
     ensures u32 { IsField (λ n. n < 2 ^ 32) u32_bytes read_u32 }

@@ -25,6 +25,6 @@ mod writer;
 
 pub use fault::FieldFault;
 pub use fixed_num::ByteList;
-pub use law::every_field;
+pub use law::fields_round_trip;
 pub use reader::Reader;
 pub use writer::Writer;

@@ -2,6 +2,7 @@ ghost use Rattle.std.specs.Prelude.{◌≡◌, ℕ, ◌+◌, ◌-◌, ◌≤◌,
 ghost use Rattle.host_model.specs.Images.{contents};
 ghost use Rattle.host_model.specs.Past.{of};
 ghost use Rattle.host_model.specs.Cause.{HasCause};
+ghost use Rattle.journal_core.specs.declared.piece.TheConstants.{AHEAD};
 
 use crate::fault::JournalFault;
 use host_model::{File, Host};
@@ -15,7 +16,7 @@ pub(crate) struct Piece {
     pub(crate) bytes: [u8; AHEAD],
     pub(crate) place: u64,
     pub(crate) count: usize,
-    ghost within: { count ≤ 4096 },
+    ghost within: { count ≤ AHEAD },
 }
 
 impl Piece {
@@ -56,7 +57,7 @@ impl Piece {
         ensures place { OnOk result (self.new.place ≡ place) }
         ensures count { OnOk result
             (H.honest → self.new.count
-            ≡ min 4096 (length (contents (of file (H.seen host.old).past)) - place)) }
+            ≡ min AHEAD (length (contents (of file (H.seen host.old).past)) - place)) }
         ensures past { H.honest → (H.seen host.new).past ≡ (H.seen host.old).past }
         ensures faults { IfErr result (λ fault. fault ≡ JournalFault.DiskFault) }
         ensures cause { HasCause (H.seen host.old).disk_faults (H.seen host.new).disk_faults

@@ -14,7 +14,7 @@ ghost use Rattle.link_frames.specs.Frames.{body_bytes, body_limit, frame_bytes, 
 ghost use Rattle.link_frames.specs.Stream.{Feeds, HandsOut, HasNoFrame, IsBad, IsOpen, IsTooLong};
 
 /// The laws of spellings: no two frames share one, and none is the prefix of another. It does nothing.
-pub fn every_frame()
+pub fn frames_are_prefix_free()
     ensures one_frame { (a b : Frame) → HasSpelling a → HasSpelling b
         → frame_bytes a ≡ frame_bytes b → a ≡ b }
     ensures no_prefix { (a b : Frame) (more : List ℕ) → HasSpelling a → HasSpelling b
@@ -80,7 +80,7 @@ pub fn answers_are_frames()
 
 /// The law of the length of a Data in form that has one beat, at most 4,096 charts and at most 65,536 dimensions: its
 /// body has at most 2^24 bytes. It does nothing.
-pub fn one_beat()
+pub fn one_beat_fits_a_frame()
     ensures { (message : Data) → IsData message → length message.beats ≡ 1
         → length message.names.charts ≤ MOST_CHARTS
         → length message.names.dimensions ≤ MOST_DIMENSIONS

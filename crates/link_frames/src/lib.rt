@@ -1,7 +1,7 @@
 //! Frames: what a child and its parent say to each other over a link, as bytes.
 //!
 //! A `Frame` is the length of its body and the body. What `write_frame` writes is the frame's one spelling. No two
-//! frames share a spelling, and none is the prefix of another (`every_frame`).
+//! frames share a spelling, and none is the prefix of another (`frames_are_prefix_free`).
 //!
 //! A `FrameReader` is fed the bytes of a link piece by piece and hands out the frames that stand in them. These are
 //! the frames of the bytes so far, however they are cut into pieces (`cut_changes_no_frames`, `pieces_change_no_frames`). It
@@ -31,7 +31,7 @@ mod writing;
 pub use fault::FrameFault;
 pub use frame::{BAD_FRAME, BODY_LIMIT, DONE, Frame, FrameList, WRONG_CHILD};
 pub use law::{
-    answers_are_frames, cut_changes_no_frames, every_frame, one_beat, pieces_change_no_frames,
+    answers_are_frames, cut_changes_no_frames, frames_are_prefix_free, one_beat_fits_a_frame, pieces_change_no_frames,
 };
 pub use reader::FrameReader;
 pub use writing::write_frame;

@@ -3,6 +3,7 @@ use Rattle.std.specs.Prelude.{◌≡◌, ◌≤◌, ◌/◌, ◌%◌, ℕ, zero,
 use Rattle.std.specs.Int.{w128, cast_signed, cast_unsigned}
 use Rattle.byteorder.specs.Endian.{little_number, little_bytes}
 use Rattle.fixed_num.specs.declared.units.Record.{Record}
+use Rattle.page_pool.specs.declared.node.TheConstants.{PAGE_SIZE}
 
 -- the first so many items of a size
 abbrev pub items_in : {X : Type 0} → (List ℕ → X) → ℕ → ℕ → List ℕ → List X
@@ -15,7 +16,7 @@ words_of bytes = items_in (little_number 4) 4 (length bytes / 4) bytes
 
 -- they are whole words, of one page
 abbrev pub IsWords : List ℕ → Type 0
-IsWords bytes = (length bytes % 4 ≡ 0) × (length bytes ≤ 4096)
+IsWords bytes = (length bytes % 4 ≡ 0) × (length bytes ≤ PAGE_SIZE)
 
 -- a number of 16 bytes with a sign
 abbrev pub signed_from : List ℕ → ℤ
@@ -44,4 +45,4 @@ records_of bytes = items_in record_from 56 (length bytes / 56) bytes
 
 -- they are whole records, of one page
 abbrev pub IsRecords : List ℕ → Type 0
-IsRecords bytes = (length bytes % 56 ≡ 0) × (length bytes ≤ 4096)
+IsRecords bytes = (length bytes % 56 ≡ 0) × (length bytes ≤ PAGE_SIZE)

@@ -48,7 +48,7 @@ pub fn schedule(alloc: Global, steps: &StepList) -> Result<World, CopyFault>
 /// What a child answers is true of it, for every child, and is from it. Where the child has all names that its
 /// beats use, and these have points, the answer has all names that its own use, and they have points too. The
 /// call does nothing.
-pub fn every_answer()
+pub fn answers_are_true()
     ensures truth { (child floor : ℕ) (names : Names) (beats : List Beat) (ask : AnAsk)
         (floors : List ℕ) (message : Data)
         → RisesFrom beat_moment 0 beats → had_floor floors floor ≡ true
@@ -66,7 +66,7 @@ pub fn every_answer()
 /// A copy that takes on the first things of a true message which begins where it ends is a copy still, and its
 /// gaps end where it ends: for every child, and however many of these things a crash leaves. The call does
 /// nothing.
-pub fn every_delivery()
+pub fn deliveries_keep_copies()
     ensures copy { (low : ℕ) (floors : List ℕ) (child held : List NamedBeat) (gaps : List Gap)
         (last : ℕ) (message : Message NamedBeat) (most : ℕ)
         → RisesFrom named_moment low child → AllByRecursion (EndsBy last) gaps
@@ -86,7 +86,7 @@ pub fn every_delivery()
 
 /// A child's first 64 beats above where an answer begins give the same answer as all of them. The call does
 /// nothing.
-pub fn every_prefix()
+pub fn first_beats_answer_as_all()
     ensures { (child floor : ℕ) (names : Names) (beats : List Beat) (ask : AnAsk)
         → RisesFrom beat_moment 0 beats
         → data_of child floor names
@@ -96,13 +96,13 @@ pub fn every_prefix()
 
 /// Points in order rise strictly by the bytes of their chart's id and then of their dimension's, and a name is
 /// found in them with the last point of this name among the points given. The call does nothing.
-pub fn every_order()
+pub fn points_in_order_rise()
     ensures rises { (points : List NamedPoint) → IsStrictlySortedBy name_cmp (in_order points) }
     ensures last { (points : List NamedPoint) (point : NamedPoint)
         → find (has_name_of point) (in_order points) ≡ find (has_name_of point) (reverse points) }
 {}
 
 /// How long the body of a `Data`'s frame is, for every `Data`. The call does nothing.
-pub fn every_size()
+pub fn data_size_is_the_length()
     ensures { (message : Data) → length (data_bytes message) ≡ data_size message }
 {}

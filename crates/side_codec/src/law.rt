@@ -8,7 +8,7 @@ ghost use Rattle.side_codec.specs.Size.{side_limit, KeepLimits};
 /// them as its spelling. So two never share a spelling. Where the health text and the names of
 /// alarms keep their limits, a spelling has as many bytes as its gaps allow, at most. It does
 /// nothing.
-pub fn every_side()
+pub fn sides_round_trip()
     ensures reads_back { (side : Side) → HasSpelling side
         → read_side (side_bytes side) ≡ Some side }
     ensures has_spelling { (side : Side) (bytes : List ℕ) → IsBytes bytes

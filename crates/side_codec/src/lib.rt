@@ -36,7 +36,7 @@ mod writing;
 pub use fault::SideFault;
 pub use gap::{GapSpan, GapSpanList};
 pub use last_point::{LastPoint, LastPointList};
-pub use law::every_side;
+pub use law::sides_round_trip;
 pub use reading::read_side;
 pub use role::SideRole;
 pub use short::is_short;

@@ -1,5 +1,5 @@
 use Rattle.entry_codec.proofs.EntriesLaw.{reads_back, is_read, one_value}
-use Rattle.entry_codec.proofs.law.every_entry.Goals as goal
+use Rattle.entry_codec.proofs.law.entries_round_trip.Goals as goal
 
 pub returns : goal.returns
 returns c = record {

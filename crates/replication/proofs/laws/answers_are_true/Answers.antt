@@ -1,6 +1,6 @@
 use Rattle.replication.proofs.NamesLaws.{answer-true, answer-child}
 use Rattle.replication.proofs.Wholes.{answer-whole}
-use Rattle.replication.proofs.laws.every_answer.Goals as goal
+use Rattle.replication.proofs.laws.answers_are_true.Goals as goal
 
 pub returns-clause-truth : goal.returns-clause-truth
 returns-clause-truth c = answer-true

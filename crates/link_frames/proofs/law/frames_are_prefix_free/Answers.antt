@@ -2,7 +2,7 @@ use Rattle.std.proofs.Common.{[], ◌++◌, ap, ◌∙◌, sym}
 use Rattle.std.proofs.lemmas.List.{append-nil}
 use Rattle.link_frames.specs.Frames.{frame_bytes}
 use Rattle.link_frames.proofs.FramesLaw.{one_frame, one_end}
-use Rattle.link_frames.proofs.law.every_frame.Goals as goal
+use Rattle.link_frames.proofs.law.frames_are_prefix_free.Goals as goal
 
 pub returns-clause-one_frame : goal.returns-clause-one_frame
 returns-clause-one_frame c = λ a b spells_a spells_b same. one_frame a b [] [] spells_a spells_b (ap (λ bytes. bytes ++ []) same)

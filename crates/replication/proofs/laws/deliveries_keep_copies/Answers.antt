@@ -1,6 +1,6 @@
 use Rattle.replication.specs.Names.{named_moment}
 use Rattle.replication.proofs.Copies.{keeps-copy, keeps-ends}
-use Rattle.replication.proofs.laws.every_delivery.Goals as goal
+use Rattle.replication.proofs.laws.deliveries_keep_copies.Goals as goal
 
 pub returns-clause-copy : goal.returns-clause-copy
 returns-clause-copy c = keeps-copy named_moment

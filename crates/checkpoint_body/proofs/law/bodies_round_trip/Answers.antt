@@ -1,6 +1,6 @@
 use Rattle.checkpoint_body.proofs.BodyLaw.{is_read, one_value, reads_back}
 use Rattle.checkpoint_body.proofs.SizeLaws.{body-within}
-use Rattle.checkpoint_body.proofs.law.every_body.Goals as goal
+use Rattle.checkpoint_body.proofs.law.bodies_round_trip.Goals as goal
 
 pub returns : goal.returns
 returns c = record {

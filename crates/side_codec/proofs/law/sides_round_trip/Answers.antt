@@ -1,6 +1,6 @@
 use Rattle.side_codec.proofs.SidesLaw.{reads_back, is_read, one_value}
 use Rattle.side_codec.proofs.SizeLaws.{side-within}
-use Rattle.side_codec.proofs.law.every_side.Goals as goal
+use Rattle.side_codec.proofs.law.sides_round_trip.Goals as goal
 
 pub returns : goal.returns
 returns c = record {

@@ -1,5 +1,5 @@
 use Rattle.field_codec.proofs.Fields.{u8_field, u16_field, u32_field, u64_field, i32_field, i64_field, i128_field, flag_field, count_field, text_field, bytes_field}
-use Rattle.field_codec.proofs.law.every_field.Goals as goal
+use Rattle.field_codec.proofs.law.fields_round_trip.Goals as goal
 
 pub returns : goal.returns
 returns c = record {

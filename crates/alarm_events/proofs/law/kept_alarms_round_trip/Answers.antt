@@ -1,6 +1,6 @@
 use Rattle.alarm_events.proofs.AlarmsLaw.{reads_back, is_read, one_value}
 use Rattle.alarm_events.proofs.Fields.{kept_field}
-use Rattle.alarm_events.proofs.law.every_kept.Goals as goal
+use Rattle.alarm_events.proofs.law.kept_alarms_round_trip.Goals as goal
 
 pub returns : goal.returns
 returns c = record {
