@@ -1,4 +1,4 @@
-use Rattle.std.specs.Prelude.{◌≡◌, ◌==◌, ℕ, Bool, false, if◌then◌else◌, List, [], ◌∷◌, ◌++◌, ◌⊎◌, take}
+use Rattle.std.specs.Prelude.{◌≡◌, ◌==◌, ℕ, Bool, false, true, if◌then◌else◌, List, [], ◌∷◌, ◌++◌, ◌⊎◌, take}
 use Rattle.host_model.specs.declared.file.File.{File}
 use Rattle.host_model.specs.declared.file.File.TheVariants.{CheckA, CheckB, JournalA, JournalB, Tier0, Tier1, Tier2, Tier3, Tier4}
 use Rattle.host_model.specs.Images.{Change, IsImage}
@@ -49,6 +49,14 @@ abbrev pub IsText : List Event → List ℕ → Type 0
 IsText [] text = text ≡ []
 IsText (On file change ∷ past) text = text ≡ told past
 IsText (Told sent ∷ past) text = (n : ℕ) × (text ≡ told past ++ take n sent)
+
+-- a prefix of this text was told since, and all of it where `all` says so
+pub record TellsPrefix (all : Bool) (text : List ℕ) (old new : List Event) : Type 0 where
+  pub said : List ℕ
+  pub unsaid : List ℕ
+  pub whole : text ≡ said ++ unsaid
+  pub tells : told new ≡ told old ++ said
+  pub complete : all ≡ true → unsaid ≡ []
 
 -- a call that failed left one such event, or none
 abbrev pub MayAdd : {T : Type 0} → (T → Event) → List Event → List Event → Type 0
