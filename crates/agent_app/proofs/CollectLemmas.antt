@@ -10,7 +10,7 @@ use Rattle.host_model.specs.Seen.{Seen}
 use Rattle.history.specs.History.{Beat, last}
 use Rattle.history.specs.Registry.{Registry}
 use Rattle.collect_block.specs.Feed.{CountsFor, IsFeedOf}
-use Rattle.point_lines.specs.declared.refusal.Refusal.{Refusal}
+use Rattle.plugin_text.specs.declared.refusal.Refusal.{Refusal}
 use Rattle.tier_settings.specs.declared.settings.Settings.{Settings}
 use Rattle.line_stream.specs.Run.{input_limit, Ended, at_end, at_fault}
 use Rattle.plugin_runner.specs.declared.collecting.Halt.{Halt}

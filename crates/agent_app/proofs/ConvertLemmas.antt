@@ -12,8 +12,8 @@ use Rattle.line_stream.proofs.RunLemmas.{rose-later}
 use Rattle.plugin_text.specs.Lines.{fits, lines, parts, rest, HasNoLongLine}
 use Rattle.plugin_text.proofs.LongLemmas.{IsLongAfter-append}
 use Rattle.plugin_text.proofs.PartsLemmas.{parts_first, parts_whole, parts-append}
-use Rattle.point_lines.specs.declared.refusal.Refusal.{Refusal}
-use Rattle.point_lines.specs.Judged.{refusal_number}
+use Rattle.plugin_text.specs.declared.refusal.Refusal.{Refusal}
+use Rattle.plugin_text.specs.Refusal.{refusal_number}
 use Rattle.agent_app.specs.declared.converting.Converting.{Converting}
 use Rattle.host_model.specs.Seen.{Seen}
 use Rattle.agent_app.specs.Convert.{all_told, converted, ending_status, is_limit, output_of, point_rules, status_of, status_within, tells_all, Converts, EndsAsText, HasStatusCause, IsUnasked, LeavesDisk, TellsOutput}

@@ -11,8 +11,8 @@ use Rattle.history.specs.Refusal.{is_unfinished}
 use Rattle.history.specs.declared.fault.BlockFault.TheVariants.{Unfinished}
 use Rattle.plugin_text.specs.Lines.{fits}
 use Rattle.plugin_text.specs.declared.fault.LineFault.TheVariants.{LineTooLong}
-use Rattle.point_lines.specs.declared.refusal.Refusal.{Refusal}
-use Rattle.point_lines.specs.declared.refusal.Refusal.TheVariants as refusal
+use Rattle.plugin_text.specs.declared.refusal.Refusal.{Refusal}
+use Rattle.plugin_text.specs.declared.refusal.Refusal.TheVariants as refusal
 use Rattle.point_lines.specs.Judged.{every, judge}
 use Rattle.point_lines.specs.Reader.{IsReaderOf, ReadsLine}
 use Rattle.point_lines.specs.Told.{told_at, told_at_end}

@@ -15,9 +15,9 @@ use Rattle.host_model.proofs.MomentLemmas.{at_end, at_start, full_text, joined}
 use Rattle.history.specs.declared.fault.BlockFault.{BlockFault}
 use Rattle.history.specs.History.{Beat}
 use Rattle.line_stream.proofs.RunLemmas.{Takes-none}
-use Rattle.point_lines.specs.declared.refusal.Refusal.{Refusal}
-use Rattle.point_lines.specs.declared.refusal.Refusal.TheVariants as refusal
-use Rattle.point_lines.specs.Judged.{refusal_number}
+use Rattle.plugin_text.specs.declared.refusal.Refusal.{Refusal}
+use Rattle.plugin_text.specs.declared.refusal.Refusal.TheVariants as refusal
+use Rattle.plugin_text.specs.Refusal.{refusal_number}
 use Rattle.replication.specs.Copies.{RisesFrom}
 use Rattle.link_frames.specs.declared.frame.Frame.{Frame}
 use Rattle.link_frames.specs.Frames.{HasSpelling}

@@ -11,8 +11,8 @@ use Rattle.history.specs.declared.line.Line.{Line}
 use Rattle.history.specs.History.{Beat}
 use Rattle.history.specs.Read.{history_at}
 use Rattle.plugin_text.specs.Lines.{parts}
-use Rattle.point_lines.specs.declared.refusal.Refusal.{Refusal}
-use Rattle.point_lines.specs.Judged.{refusal_number}
+use Rattle.plugin_text.specs.declared.refusal.Refusal.{Refusal}
+use Rattle.plugin_text.specs.Refusal.{refusal_number}
 use Rattle.tier_settings.specs.declared.settings.Settings.{Settings}
 use Rattle.agent_core.specs.Stands.{StandsForHistory, StandsForOneOf}
 use Rattle.agent_core.specs.Rules.{history_with}

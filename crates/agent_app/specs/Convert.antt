@@ -10,9 +10,10 @@ use Rattle.history.specs.declared.line.Line.{Line}
 use Rattle.history.specs.Read.{is_disable}
 use Rattle.history.specs.Refusal.{is_unfinished}
 use Rattle.plugin_text.specs.declared.fault.LineFault.TheVariants.{LineTooLong}
-use Rattle.point_lines.specs.declared.refusal.Refusal.{Refusal}
-use Rattle.point_lines.specs.declared.refusal.Refusal.TheVariants as refusal
-use Rattle.point_lines.specs.Judged.{every, judge, refusal_number}
+use Rattle.plugin_text.specs.declared.refusal.Refusal.{Refusal}
+use Rattle.plugin_text.specs.declared.refusal.Refusal.TheVariants as refusal
+use Rattle.point_lines.specs.Judged.{every, judge}
+use Rattle.plugin_text.specs.Refusal.{refusal_number}
 use Rattle.point_lines.specs.Told.{told_at, told_at_end}
 use Rattle.line_stream.specs.Run.{input_limit}
 use Rattle.host_model.specs.Seen.{Seen}

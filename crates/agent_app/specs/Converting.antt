@@ -8,7 +8,7 @@ use Rattle.host_model.specs.declared.status.Status.{Status}
 use Rattle.host_model.specs.declared.status.Status.TheVariants.{ReadFault, TellFault, Memory}
 use Rattle.history.specs.declared.line.Line.{Line}
 use Rattle.plugin_text.specs.Lines.{fits}
-use Rattle.point_lines.specs.declared.refusal.Refusal.{Refusal}
+use Rattle.plugin_text.specs.declared.refusal.Refusal.{Refusal}
 use Rattle.point_lines.specs.Reader.{IsReaderOf}
 use Rattle.line_stream.specs.Chain.{Acts}
 use Rattle.line_stream.specs.Run.{input_limit}

@@ -10,7 +10,7 @@ use Rattle.host_model.specs.Past.{told, Event}
 use Rattle.host_model.specs.Seen.{Seen}
 use Rattle.history.specs.declared.fault.BlockFault.{BlockFault}
 use Rattle.history.specs.History.{Beat}
-use Rattle.point_lines.specs.declared.refusal.Refusal.TheVariants as refusal
+use Rattle.plugin_text.specs.declared.refusal.Refusal.TheVariants as refusal
 use Rattle.replication.specs.Copies.{RisesFrom}
 use Rattle.tier_settings.specs.declared.settings.Settings.{Settings}
 use Rattle.agent_core.specs.declared.fault.AgentFault.TheVariants as agent

@@ -21,8 +21,8 @@ use Rattle.plugin_text.specs.declared.fault.LineFault.{LineFault}
 use Rattle.plugin_text.specs.declared.fault.LineFault.TheVariants.{LineTooLong}
 use Rattle.plugin_text.specs.Line.{line}
 use Rattle.plugin_text.specs.Lines.{parts}
-use Rattle.point_lines.specs.declared.refusal.Refusal.{Refusal}
-use Rattle.point_lines.specs.declared.refusal.Refusal.TheVariants as refusal
+use Rattle.plugin_text.specs.declared.refusal.Refusal.{Refusal}
+use Rattle.plugin_text.specs.declared.refusal.Refusal.TheVariants as refusal
 use Rattle.tier_settings.specs.declared.settings.Settings.{Settings}
 use Rattle.store_core.specs.disk.Holds.{IsForeign}
 use Rattle.store_core.specs.Damaged.{IsDamagedIn}

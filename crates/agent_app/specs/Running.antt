@@ -9,7 +9,7 @@ use Rattle.history.specs.declared.line.Line.{Line}
 use Rattle.history.specs.History.{Beat, registry_of}
 use Rattle.history.specs.Read.{history_at}
 use Rattle.plugin_text.specs.Lines.{lines, parts, rest, fits}
-use Rattle.point_lines.specs.declared.refusal.Refusal.{Refusal}
+use Rattle.plugin_text.specs.declared.refusal.Refusal.{Refusal}
 use Rattle.chart_registry.specs.Accepted.{AreAccepted, IsWithin}
 use Rattle.collect_block.specs.Feed.{CountsFor, IsFeedOf}
 use Rattle.tier_settings.specs.declared.settings.Settings.{Settings}

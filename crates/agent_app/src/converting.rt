@@ -12,8 +12,8 @@ ghost use Rattle.agent_app.specs.Reading.{Ends as IsOver, RefusedAt};
 use crate::refusals::{push_refusal, refusal_status};
 use host_model::{Failed, Host, Status};
 use line_stream::Taker;
-use plugin_text::LineFault;
-use point_lines::{Reader, Refusal, Stop};
+use plugin_text::{LineFault, Refusal};
+use point_lines::{Reader, Stop};
 use std::alloc::Global;
 
 /// What is kept of a text whose points are told.
