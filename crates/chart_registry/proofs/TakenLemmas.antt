@@ -1,5 +1,5 @@
 -- What a registry takes by number, and what it is with it.
-use Rattle.std.proofs.Common.{◌≡◌, ℕ, ◌+◌, ◌<◌, ◌≤◌, Bool, true, false, not, ◌&&◌, nat_eq, nat_le, nat_lt, List, [], ◌∷◌, length, map, position, take, get_or, slice_get, Option, Some, None, is_none, refl, sym, ap, subst, ◌∙◌, arith, if◌then◌else◌}
+use Rattle.std.proofs.Common.{◌≡◌, ℕ, ◌+◌, ◌<◌, ◌≤◌, Bool, true, false, not, ◌&&◌, nat_eq, nat_le, nat_lt, List, [], ◌∷◌, length, map, position, take, get_or, slice_get, Option, Some, None, IfSome, is_none, is_some, true≢false, refl, sym, ap, subst, ◌∙◌, arith, if◌then◌else◌}
 use Rattle.std.specs.Str.{bytes_eq}
 use Rattle.std.proofs.lemmas.Bool.{and_parts, eqb-true, ltb-true, lt-ltb, le-ltb, leb-false, leb-true}
 use Rattle.std.proofs.lemmas.List.{map-append}
@@ -15,13 +15,14 @@ use Rattle.history.specs.Refusal.{chart_refusal, dimension_refusal, dimensions_f
 use Rattle.history.specs.Registry.{Registry, is_chart, is_dimension, same_chart, same_dimension, chart_of, series_of}
 use Rattle.chart_registry.specs.Defining.{chart_id, nothing_open}
 use Rattle.chart_registry.specs.Taking.{chart_def, dimension_back, is_number, takes_chart, takes_dimension, with_chart, with_charts, with_dimension, with_dimensions}
+use Rattle.chart_registry.proofs.ApartLemmas.{one_series}
 use Rattle.chart_registry.proofs.Applying.{put_all-push, same_chart-alike}
 use Rattle.chart_registry.proofs.Finding.{nat_eq_same, nat_eq_other}
 use Rattle.chart_registry.proofs.Growing.{first-put, same_dimension-alike}
 use Rattle.chart_registry.proofs.Places.{first-at, first-from_position, position-first, position-push, put-absent}
-use Rattle.chart_registry.proofs.RegistryLemmas.{chart_of-within, chart_refusal-present, chart_refusal-absent, dimension_refusal-present, dimension_refusal-absent, series_of-within}
-use Rattle.chart_registry.proofs.RowsLemmas.{bytes_eq_same}
-use Rattle.chart_registry.proofs.Steps.{and-no, number-is, take-prefix}
+use Rattle.chart_registry.proofs.RegistryLemmas.{chart_id-chart_of, chart_of-within, chart_refusal-present, chart_refusal-absent, dimension_refusal-present, dimension_refusal-absent, series_of-within}
+use Rattle.chart_registry.proofs.RowsLemmas.{bytes_eq_same, same_text}
+use Rattle.chart_registry.proofs.Steps.{and-no, number-is, number-yes, take-prefix}
 
 -- ---- one definition more
 mapped-push : {X A : Type 0} (f : X → A) (same : A → A → Bool) (ys : List A) (xs : List X) (i : ℕ) (x : X) → i < length xs → get_or xs i x ≡ x
@@ -57,6 +58,12 @@ and-turned true false = refl
 and-turned false true = refl
 and-turned false false = refl
 
+pub none-told : (r : Bool) (found : Option ℕ) → is_some found ≡ not r → r ≡ is_none found
+none-told true None e = refl
+none-told true (Some n) e = e
+none-told false None e = e
+none-told false (Some n) e = refl
+
 pub and-apart : (a b c d : Bool) → (a && b && c && d) ≡ ((a && b) && (c && d))
 and-apart true true c d = refl
 and-apart true false c d = refl
@@ -76,6 +83,43 @@ not-true false e = refl
 and-yes : (b : Bool) → (b && true) ≡ b
 and-yes true = refl
 and-yes false = refl
+
+-- ---- what has a number
+-- the chart with an id, where the one with a number is known
+pub number-told : (r : Registry) (number : ℕ) (id own : List ℕ) → chart_id r number ≡ own → chart_of r own ≡ Some number → bytes_eq id own ≡ is_number number (chart_of r id)
+number-told r number id own named there = by (bytes_eq id own) refl
+  where
+    other : (bytes_eq id own ≡ false) → (found : Option ℕ) → chart_of r id ≡ found → false ≡ is_number number found
+    other apart None e = refl
+    other apart (Some n) e =
+        sym (nat_eq_other number n (λ same.
+        let at : chart_id r n ≡ id = subst (λ (found : Option ℕ). IfSome found (λ n. chart_id r n ≡ id)) e (chart_id-chart_of r id) in
+        true≢false (sym (bytes_eq_same id own (sym at ∙ ap (chart_id r) (sym same) ∙ named)) ∙ apart)))
+
+    by : (b : Bool) → bytes_eq id own ≡ b → b ≡ is_number number (chart_of r id)
+    by true e = sym (number-yes number number (chart_of r id) (ap (chart_of r) (same_text id own e) ∙ there) refl)
+    by false e = other e (chart_of r id) refl
+
+-- the dimension with an id, where the one with a series is known
+module _ (r : Registry) (series : ℕ) (chart id : List ℕ) where
+  pub series-told : (own : List ℕ) → series_of r chart own ≡ Some series → bytes_eq id own ≡ is_number series (series_of r chart id)
+  series-told own there = by (bytes_eq id own) refl
+    where
+      other : (bytes_eq id own ≡ false) → (found : Option ℕ) → series_of r chart id ≡ found → false ≡ is_number series found
+      other apart None e = refl
+      other apart (Some n) e =
+          sym (nat_eq_other series n (λ same. true≢false (sym (bytes_eq_same id own (one_series r chart id chart own n e (there ∙ ap Some same)).1) ∙ apart)))
+
+      by : (b : Bool) → bytes_eq id own ≡ b → b ≡ is_number series (series_of r chart id)
+      by true e = sym (number-yes series series (series_of r chart id) (ap (series_of r chart) (same_text id own e) ∙ there) refl)
+      by false e = other e (series_of r chart id) refl
+
+  pub series-apart : (owner own : List ℕ) → series_of r owner own ≡ Some series → (chart ≡ owner → ⊥) → is_number series (series_of r chart id) ≡ false
+  series-apart owner own there apart = by (series_of r chart id) refl
+    where
+      by : (found : Option ℕ) → series_of r chart id ≡ found → is_number series found ≡ false
+      by None e = refl
+      by (Some n) e = nat_eq_other series n (λ same. apart (one_series r chart id owner own n e (there ∙ ap Some same)).0)
 
 -- ---- charts
 module _ (r : Registry) (chart : NumberedChart) where
@@ -130,16 +174,20 @@ module _ (r : Registry) (chart : NumberedChart) where
               place-known n old.0 e old.1.0 ∙ and-turned (nat_eq old.0.update_every chart.def.update_every) (nat_eq chart.number n)
               ∙ (λ i. other i && nat_eq old.0.update_every chart.def.update_every) ∙ (λ i. sym other i && nat_eq at.update_every chart.def.update_every)
 
-  pub next-chart : length r.charts ≤ chart.number → has_place ≡ ((nat_eq chart.number (length r.charts) && nat_lt (length r.charts) 4096) && is_none (chart_of r id))
+  pub next-chart : length r.charts ≤ chart.number → has_place ≡ (nat_lt chart.number 4096 && (nat_eq chart.number (length r.charts) && is_none (chart_of r id)))
   next-chart past = by (chart_of r id) refl
     where
-      by : (found : Option ℕ) → chart_of r id ≡ found → has_place ≡ ((nat_eq chart.number (length r.charts) && nat_lt (length r.charts) 4096) && is_none found)
-      by None e = place-new e ∙ and-turned (nat_lt (length r.charts) 4096) (nat_eq chart.number (length r.charts)) ∙ sym (and-yes (nat_eq chart.number (length r.charts) && nat_lt (length r.charts) 4096))
+      room-same : (b : Bool) → nat_eq chart.number (length r.charts) ≡ b → (nat_lt (length r.charts) 4096 && b) ≡ (nat_lt chart.number 4096 && (b && true))
+      room-same true same = ap (λ (n : ℕ). nat_lt n 4096 && true) (sym (eqb-true chart.number (length r.charts) same))
+      room-same false other = and-no (nat_lt (length r.charts) 4096) ∙ sym (and-no (nat_lt chart.number 4096))
+
+      by : (found : Option ℕ) → chart_of r id ≡ found → has_place ≡ (nat_lt chart.number 4096 && (nat_eq chart.number (length r.charts) && is_none found))
+      by None e = place-new e ∙ room-same (nat_eq chart.number (length r.charts)) refl
       by (Some n) e =
           let old = first-at (is_chart id) r.charts n (first-from_position (is_chart id) r.charts n e) in
           let other = nat_eq_other chart.number n (λ same. absurd (omega (arith, same, past, chart_of-within r id n e))) in
           place-known n old.0 e old.1.0 ∙ ap (λ (b : Bool). nat_eq old.0.update_every chart.def.update_every && b) other ∙ and-no (nat_eq old.0.update_every chart.def.update_every)
-          ∙ sym (and-no (nat_eq chart.number (length r.charts) && nat_lt (length r.charts) 4096))
+          ∙ sym (and-no (nat_lt chart.number 4096)) ∙ ap (λ (b : Bool). nat_lt chart.number 4096 && b) (sym (and-no (nat_eq chart.number (length r.charts))))
 
   -- a chart that is taken
   module _ (takes : takes_chart r chart ≡ true) where
@@ -215,16 +263,14 @@ module _ (r : Registry) (dimension : NumberedDimension) where
           ∙ and-no (not (dimensions_full r nothing_open owner))
       by (Some n) e = series-known n e
 
-  pub next-series : length r.dimensions ≤ dimension.series → has_series ≡ ((nat_eq dimension.series (length r.dimensions) && not (dimensions_full r nothing_open owner)) && is_none (series_of r owner own))
+  pub next-series : length r.dimensions ≤ dimension.series → has_series ≡ (not (dimensions_full r nothing_open owner) && (nat_eq dimension.series (length r.dimensions) && is_none (series_of r owner own)))
   next-series past = by (series_of r owner own) refl
     where
-      by : (found : Option ℕ) → series_of r owner own ≡ found → has_series ≡ ((nat_eq dimension.series (length r.dimensions) && not (dimensions_full r nothing_open owner)) && is_none found)
-      by None e =
-          series-new e ∙ and-turned (not (dimensions_full r nothing_open owner)) (nat_eq dimension.series (length r.dimensions))
-          ∙ sym (and-yes (nat_eq dimension.series (length r.dimensions) && not (dimensions_full r nothing_open owner)))
+      by : (found : Option ℕ) → series_of r owner own ≡ found → has_series ≡ (not (dimensions_full r nothing_open owner) && (nat_eq dimension.series (length r.dimensions) && is_none found))
+      by None e = series-new e ∙ ap (λ (b : Bool). not (dimensions_full r nothing_open owner) && b) (sym (and-yes (nat_eq dimension.series (length r.dimensions))))
       by (Some n) e =
           series-known n e ∙ nat_eq_other dimension.series n (λ same. absurd (omega (arith, same, past, series_of-within r owner own n e)))
-          ∙ sym (and-no (nat_eq dimension.series (length r.dimensions) && not (dimensions_full r nothing_open owner)))
+          ∙ sym (and-no (not (dimensions_full r nothing_open owner))) ∙ ap (λ (b : Bool). not (dimensions_full r nothing_open owner) && b) (sym (and-no (nat_eq dimension.series (length r.dimensions))))
 
   -- a dimension that is taken
   module _ (takes : takes_dimension r dimension ≡ true) where

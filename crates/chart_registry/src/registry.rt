@@ -131,8 +131,8 @@ impl Registry {
         if series >= self.dimensions() {
             return false;
         }
-        let owner = self.owner(series);
-        owner == chart && id == self.dimension(series).id.as_str()
+        let dimension = &self.dimensions[series as usize];
+        dimension.owner == chart && id == dimension.definition.def.id.as_str()
     }
 
     /// Whether the registry may take this chart by its number: the chart has an update_every and keeps its limits, and
@@ -177,10 +177,10 @@ impl Registry {
             && is_number chart.now.number
             (chart_of (with_chart self.now chart.now) chart.now.def.id)) }
     {
-        let charts = self.charts();
-        chart.number == charts
-            && charts < MOST_CHARTS
-            && self.chart_of(chart.def.id.as_str()).is_none()
+        if chart.number >= MOST_CHARTS {
+            return false;
+        }
+        chart.number == self.charts() && self.chart_of(chart.def.id.as_str()).is_none()
     }
 
     /// Takes a chart by its number, in the place of its definition so far or behind all charts. After an `Err` all is
@@ -261,10 +261,11 @@ impl Registry {
             (series_of (with_dimension self.now dimension.now)
             (chart_id self.now dimension.now.chart) dimension.now.def.id)) }
     {
+        if self.is_full(dimension.chart) {
+            return false;
+        }
         let id = dimension.def.id.as_str();
-        dimension.series == self.dimensions()
-            && !self.is_full(dimension.chart)
-            && self.series_of(dimension.chart, id).is_none()
+        dimension.series == self.dimensions() && self.series_of(dimension.chart, id).is_none()
     }
 
     /// Takes a dimension by its numbers, in the place of its definition so far or behind all dimensions. After an `Err`

@@ -20,7 +20,7 @@ loop-chart-preserved c =
     let within = c.loop-chart-test.true in
     let made = c.in_ok-define_chart.ensures.ok in record {
       made = charts-pushed first c.loop-chart.registry c.define_chart.new.registry charts i chart within at c.loop-chart.invariant.made made;
-      taken = steps-more takes_chart with_chart first charts i chart c.loop-chart.registry c.define_chart.new.registry within at (define_chart-requires c) made c.loop-chart.invariant.taken;
+      taken = steps-more takes_chart with_chart first charts i chart c.loop-chart.registry c.define_chart.new.registry within at (steps-next takes_chart with_chart first charts i chart c.loop-chart.registry within at c.loop-chart.invariant.taken c.requires) made c.loop-chart.invariant.taken;
       noted = λ before are. c.in_ok-define_chart.ensures.noted before (c.loop-chart.invariant.noted before are);
     }
 

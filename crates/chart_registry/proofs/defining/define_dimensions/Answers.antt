@@ -20,7 +20,7 @@ loop-dimension-preserved c =
     let within = c.loop-dimension-test.true in
     let made = c.in_ok-define_dimension.ensures.ok in record {
       made = dimensions-pushed first c.loop-dimension.registry c.define_dimension.new.registry dimensions i dimension within at c.loop-dimension.invariant.made made;
-      taken = steps-more takes_dimension with_dimension first dimensions i dimension c.loop-dimension.registry c.define_dimension.new.registry within at (define_dimension-requires c) made c.loop-dimension.invariant.taken;
+      taken = steps-more takes_dimension with_dimension first dimensions i dimension c.loop-dimension.registry c.define_dimension.new.registry within at (steps-next takes_dimension with_dimension first dimensions i dimension c.loop-dimension.registry within at c.loop-dimension.invariant.taken c.requires) made c.loop-dimension.invariant.taken;
       noted = λ before are. c.in_ok-define_dimension.ensures.noted before (c.loop-dimension.invariant.noted before are);
     }
 
