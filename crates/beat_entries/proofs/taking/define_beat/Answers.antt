@@ -1,4 +1,5 @@
 use Rattle.std.proofs.Common.{◌≡◌, List, true, sym, ap, subst, ◌∙◌}
+use Rattle.entry_codec.specs.Entries.{is_collected_canonical, IsWithinLimits}
 use Rattle.history.specs.declared.numbered.NumberedBeat.{NumberedBeat}
 use Rattle.history.specs.declared.numbered.NumberedChart.{NumberedChart}
 use Rattle.history.specs.declared.numbered.NumberedDimension.{NumberedDimension}
@@ -42,6 +43,12 @@ module _ (registry : Registry) (numbered : NumberedBeat) (charts : AreApart same
   regular : IsRegular (with_beat registry beat) beat
   regular = tested-regular registry beat judged.is_open charts dimensions tests
 
+  canonical : is_collected_canonical numbered ≡ true
+  canonical = tested-canonical registry beat judged.is_open charts dimensions tests numbered.moment numbered judged.numbered_is
+
+  limits : IsWithinLimits numbered
+  limits = tested-limits registry beat judged.is_open charts dimensions tests numbered.moment numbered judged.numbered_is
+
 pub take_definitions-requires-clause-charts : goal.take_definitions-requires-clause-charts
 take_definitions-requires-clause-charts c =
     ap (all_taken takes_chart with_chart c.args.registry.now) c.as_slice.ensures
@@ -52,8 +59,31 @@ take_definitions-requires-clause-dimensions c =
     (λ i. all_taken takes_dimension with_dimension (with_charts c.args.registry.now (c.as_slice.ensures i)) (c.as_slice-2.ensures i))
     ∙ taken-dimensions c.args.registry.now c.args.numbered.now c.requires.charts c.requires.dimensions c.requires.judged.0 c.requires.judged.1
 
-pub returns-in_ok-take_definitions-clause-taken : goal.returns-in_ok-take_definitions-clause-taken
-returns-in_ok-take_definitions-clause-taken c = λ beat judged.
+pub returns-clause-taken : goal.returns-clause-taken
+returns-clause-taken c = λ beat judged.
     c.in_ok-take_definitions.ensures.taken
     ∙ (λ i. with_dimensions (with_charts c.args.registry.now (c.as_slice.ensures i)) (c.as_slice-2.ensures i))
     ∙ taken c.args.registry.now c.args.numbered.now c.requires.charts c.requires.dimensions beat judged
+
+pub returns-clause-charts : goal.returns-clause-charts
+returns-clause-charts c =
+    subst (λ (r : Registry). AreApart same_chart r.charts) (sym (returns-clause-taken c c.requires.judged.0 c.requires.judged.1)) (charts-apart c.args.registry.now c.requires.judged.0 c.requires.charts)
+
+pub returns-clause-dimensions : goal.returns-clause-dimensions
+returns-clause-dimensions c =
+    subst (λ (r : Registry). AreApart same_dimension r.dimensions) (sym (returns-clause-taken c c.requires.judged.0 c.requires.judged.1)) (dimensions-apart c.args.registry.now c.requires.judged.0 c.requires.dimensions)
+
+pub returns-clause-regular : goal.returns-clause-regular
+returns-clause-regular c = λ beat judged.
+    subst (λ (r : Registry). IsRegular r beat) (sym (returns-clause-taken c beat judged)) (regular c.args.registry.now c.args.numbered.now c.requires.charts c.requires.dimensions beat judged)
+
+pub returns-clause-there : goal.returns-clause-there
+returns-clause-there c =
+    subst (λ (r : Registry). IsThere r c.args.numbered.now) (sym (returns-clause-taken c c.requires.judged.0 c.requires.judged.1))
+    (there c.args.registry.now c.args.numbered.now c.requires.charts c.requires.dimensions c.requires.judged.0 c.requires.judged.1)
+
+pub returns-clause-canonical : goal.returns-clause-canonical
+returns-clause-canonical c = canonical c.args.registry.now c.args.numbered.now c.requires.charts c.requires.dimensions c.requires.judged.0 c.requires.judged.1
+
+pub returns-clause-limits : goal.returns-clause-limits
+returns-clause-limits c = limits c.args.registry.now c.args.numbered.now c.requires.charts c.requires.dimensions c.requires.judged.0 c.requires.judged.1
