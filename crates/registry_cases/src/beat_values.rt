@@ -4,7 +4,10 @@ ghost use Rattle.std.specs.Prelude.{◌≡◌, ◌∷◌, [], IfOk};
 use beat_points::{LastRows, SeriesWord, SeriesWordList};
 use chart_registry::Registry;
 use fixed_num::{ListOf, Text};
-use history::{Algorithm, ChartDef, ChartKind, DimDef, NumberedBeat, NumberedChart, NumberedDimension, Row, Value};
+use history::{
+    Algorithm, ChartDef, ChartKind, DimDef, NumberedBeat, NumberedChart, NumberedDimension, Row,
+    Value,
+};
 use std::alloc::{AllocError, Global};
 use std::process::Abort;
 use std::test::Fail;
