@@ -269,7 +269,7 @@ copied-taken registry h copy old new grown lasts same = record {
 }
   where
     takes : Takes copy.moment [] (old ++ replicate (length registry.dimensions - length old) None) new
-    takes = record { rows_are = λ series. ap (λ (rows : List (Option Last)). slice_index_or rows series None) grown; length_is = ap length grown }
+    takes = record { rows_are = λ series. ap (λ (rows : List (Option Last)). get_or rows series None) grown; length_is = ap length grown }
 
     by : (chart id : List ℕ) (series : Option ℕ) → series_of registry chart id ≡ series → last_in new series ≡ option_map last_of (last_set h chart id)
     by chart id None absent = sym (ap (last_in old) absent) ∙ before-is registry h copy.charts copy.dimensions copy.moment [] old new takes lasts same chart id
