@@ -1,7 +1,6 @@
-use Rattle.std.proofs.Common.{◌≡◌, ◌<◌, ◌≤◌, false, true, List, length, map, take, get_or, sym, ap, ◌∙◌, arith}
+use Rattle.std.proofs.Common.{◌≡◌, ◌<◌, ◌≤◌, false, true, length, map, get_or, sym, ap, ◌∙◌, arith}
 use Rattle.std.proofs.lemmas.List.{length-map, take_all}
 use Rattle.std.proofs.lemmas.Result.{err_from_is_err_and}
-use Rattle.history.specs.declared.numbered.NumberedChart.{NumberedChart}
 use Rattle.chart_registry.specs.Taking.{takes_chart, with_chart, with_charts}
 use Rattle.chart_registry.proofs.Places.{get_or-map_any}
 use Rattle.chart_registry.proofs.Steps.{steps-all, steps-more, steps-stop}

@@ -1,8 +1,6 @@
-use Rattle.std.proofs.Common.{◌≡◌, List, true, sym, ap, subst, ◌∙◌}
+use Rattle.std.proofs.Common.{◌≡◌, true, sym, ap, subst, ◌∙◌}
 use Rattle.entry_codec.specs.Entries.{is_collected_canonical, IsWithinLimits}
 use Rattle.history.specs.declared.numbered.NumberedBeat.{NumberedBeat}
-use Rattle.history.specs.declared.numbered.NumberedChart.{NumberedChart}
-use Rattle.history.specs.declared.numbered.NumberedDimension.{NumberedDimension}
 use Rattle.history.specs.Numbered.{numbered_charts, numbered_dimensions, IsThere}
 use Rattle.history.specs.declared.beat.OpenBeat.{OpenBeat}
 use Rattle.history.specs.Registry.{Registry, same_chart, same_dimension}

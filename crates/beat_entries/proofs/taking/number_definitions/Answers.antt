@@ -6,7 +6,6 @@ use Rattle.entry_codec.specs.Entries.{is_collected_canonical, IsWithinLimits}
 use Rattle.history.specs.declared.beat.OpenBeat.{OpenBeat}
 use Rattle.history.specs.declared.beat.OpenRow.{OpenRow}
 use Rattle.history.specs.declared.chart.ChartDef.{ChartDef}
-use Rattle.history.specs.declared.row.Row.{Row}
 use Rattle.history.specs.Numbered.{numbered_beat, numbered_charts, numbered_dimensions, numbered_rows, numbered_values}
 use Rattle.history.specs.Registry.{Registry, same_chart, same_dimension}
 use Rattle.history.specs.Regular.{AreApart}

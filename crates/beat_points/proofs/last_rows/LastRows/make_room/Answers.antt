@@ -1,4 +1,4 @@
-use Rattle.std.proofs.Common.{◌≡◌, ◌-◌, ◌∷◌, ◌++◌, List, Option, Result, Ok, Err, OnOk, length, replicate, sym, ◌∙◌}
+use Rattle.std.proofs.Common.{◌≡◌, ◌-◌, ◌∷◌, ◌++◌, List, Option, Result, Ok, Err, OnOk, length, replicate, ◌∙◌}
 use Rattle.algorithms.specs.declared.last.Last.{Last}
 use Rattle.history.specs.History.{Beat, Copy, copied, registry_of}
 use Rattle.history.specs.Registry.{Registry}
