@@ -9,4 +9,6 @@ mod point_texts;
 #[cfg(test)]
 mod query_texts;
 #[cfg(test)]
+mod registries;
+#[cfg(test)]
 mod texts;

@@ -1,9 +1,10 @@
 //! The tests of `query_text`: questions and answers as texts.
 ghost use Rattle.std.specs.Prelude.{◌≡◌, IfOk};
 
+use crate::registries::{define_chart, define_dimension};
 use chart_registry::Registry;
 use fixed_num::{Text, Units};
-use history::{Algorithm, ChartDef, ChartKind, DimDef, NumberedChart, NumberedDimension};
+use history::{Algorithm, ChartDef, ChartKind, DimDef};
 use query_engine::{CellList, Table, TableRow, TableRowList};
 use query_text::{QueryFault, read_query, write_fault, write_table};
 use std::alloc::{AllocError, Global};
@@ -45,35 +46,6 @@ fn dim_def(alloc: Global, id: &str, name: &str, hidden: bool) -> Result<DimDef, 
         hidden,
         noreset: false,
     })
-}
-
-/// Takes a chart by the number that its id has or gets, which is given; a chart that may not be taken fails.
-fn define_chart(registry: &mut Registry, def: ChartDef) -> Result<u32, Fail> {
-    let number = registry
-        .chart_of(def.id.as_str())
-        .unwrap_or(registry.charts());
-    let chart = NumberedChart { number, def };
-    if !registry.takes_chart(&chart) {
-        return Err(Fail::from("a chart may not be taken"));
-    }
-    registry.take_chart(&chart)?;
-    Ok(number)
-}
-
-/// The same of a dimension.
-fn define_dimension(registry: &mut Registry, chart: u32, def: DimDef) -> Result<(), Fail> {
-    if chart >= registry.charts() {
-        return Err(Fail::from("no such chart"));
-    }
-    let series = registry
-        .series_of(chart, def.id.as_str())
-        .unwrap_or(registry.dimensions());
-    let dimension = NumberedDimension { series, chart, def };
-    if !registry.takes_dimension(&dimension) {
-        return Err(Fail::from("a dimension may not be taken"));
-    }
-    registry.take_dimension(&dimension)?;
-    Ok(())
 }
 
 fn registry(alloc: Global) -> Result<Registry, Fail> {

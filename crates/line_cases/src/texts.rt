@@ -1,9 +1,7 @@
 //! How whole texts end: each refusal, and which of two goes first.
-ghost use Rattle.std.specs.Prelude.{OnOk};
-ghost use Rattle.collect_block.specs.declared.step.Step.TheVariants as step;
-ghost use Rattle.line_cases.specs.Reading.{AreOfText, IsLedTo};
 
-use chart_registry::{Registry, RegistryFault};
+use crate::registries::define;
+use chart_registry::Registry;
 use collect_block::{BlockFault, Feed, Line, OpenBeat, Step};
 use plugin_text::read_line;
 use std::alloc::Global;
@@ -242,9 +240,7 @@ struct Reading {
 }
 
 impl Reading {
-    fn new(alloc: Global) -> Reading
-        ensures { AreOfText result.feed result.registry }
-    {
+    fn new(alloc: Global) -> Reading {
         Reading {
             feed: Feed::new(alloc, 1),
             registry: Registry::new(alloc),
@@ -254,9 +250,7 @@ impl Reading {
     }
 
     // Takes lines up to the one that ends the text, if one does.
-    fn take_lines(&mut self, lines: &[Line]) -> Result<Option<End>, RegistryFault>
-        requires { AreOfText self.old.feed self.old.registry }
-    {
+    fn take_lines(&mut self, lines: &[Line]) -> Result<Option<End>, Fail> {
         for at in 0..lines.len() {
             if let Some(end) = self.take(at + 1, &lines[at])? {
                 return Ok(Some(end));
@@ -266,22 +260,16 @@ impl Reading {
     }
 
     // Takes the line with this number, or says how it ends the text.
-    fn take(&mut self, number: usize, line: &Line) -> Result<Option<End>, RegistryFault>
-        requires { AreOfText self.old.feed self.old.registry }
-        ensures { OnOk result (AreOfText self.new.feed self.new.registry) }
-    {
+    fn take(&mut self, number: usize, line: &Line) -> Result<Option<End>, Fail> {
         match self.feed.line(&self.registry, self.last, false, line) {
             Ok(step) => self.take_step(step),
-            Err(BlockFault::Memory) => Err(RegistryFault::Memory),
+            Err(BlockFault::Memory) => Err(Fail::from("out of memory")),
             Err(fault) => Ok(Some(End::Refused(number, fault))),
         }
     }
 
     // Takes what a line led to.
-    fn take_step(&mut self, step: Step) -> Result<Option<End>, RegistryFault>
-        requires { IsLedTo step self.old.feed self.old.registry }
-        ensures { OnOk result (AreOfText self.new.feed self.new.registry) }
-    {
+    fn take_step(&mut self, step: Step) -> Result<Option<End>, Fail> {
         match step {
             Step::Nothing => Ok(None),
             Step::Disabled => Ok(Some(End::Disabled)),
@@ -297,11 +285,8 @@ impl Reading {
     }
 
     // Takes a beat that a MOMENT closed.
-    fn close(&mut self, beat: &OpenBeat, moment: u32) -> Result<(), RegistryFault>
-        requires { IsLedTo (step.Beat beat.now moment) self.old.feed self.old.registry }
-        ensures { OnOk result (AreOfText self.new.feed self.new.registry) }
-    {
-        self.registry.apply(beat)?;
+    fn close(&mut self, beat: &OpenBeat, moment: u32) -> Result<(), Fail> {
+        define(&mut self.registry, beat)?;
         self.last = moment;
         self.items = self.items.saturating_add(1);
         Ok(())
@@ -336,9 +321,7 @@ fn rest_of(text: &str) -> &[u8] {
 }
 
 // How a text of these whole lines ends.
-fn end_of(reading: &mut Reading, lines: &[Line], rest: &[u8]) -> Result<End, RegistryFault>
-    requires { AreOfText reading.old.feed reading.old.registry }
-{
+fn end_of(reading: &mut Reading, lines: &[Line], rest: &[u8]) -> Result<End, Fail> {
     match reading.take_lines(lines)? {
         Some(end) => Ok(end),
         None => Ok(reading.end(lines.len(), rest)),
