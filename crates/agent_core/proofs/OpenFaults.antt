@@ -1,7 +1,10 @@
 -- Why an agent is not opened: the faults of its store, and of its replay.
-use Rattle.std.proofs.Common.{◌≡◌, ◌⊎◌, inl, inr, ℕ, zero, suc, ◌≤◌, true, List, Option, Some, None, IsSome, Result, Ok, Err, IfErr, refl, sym, ap, ◌∙◌, subst, arith}
+use Rattle.std.proofs.Common.{◌≡◌, ◌⊎◌, inl, inr, ℕ, zero, suc, ◌≤◌, true, List, Option, Some, None, IsSome, Result, Ok, Err, IfErr, IsErrOf, refl, sym, ap, ◌∙◌, subst, arith}
 use Rattle.std.specs.Option.{is_some}
 use Rattle.std.proofs.lemmas.Option.{none-some, same_Some}
+use Rattle.beat_entries.specs.declared.refusal.EntryRefusal.{EntryRefusal}
+use Rattle.beat_entries.specs.declared.refusal.EntryRefusal.TheVariants as refusal
+use Rattle.host_model.specs.Cause.{HasCause}
 use Rattle.host_model.specs.declared.file.File.{File}
 use Rattle.store_core.specs.Damaged.{IsDamagedIn}
 use Rattle.store_core.specs.Stands.{is_made}
@@ -12,7 +15,7 @@ use Rattle.store_core.specs.Faults.{IsOpenFault, IsReplayFault, ReopensWith}
 use Rattle.store_core.proofs.StandLemmas.{is-made, never-damaged}
 use Rattle.agent_core.specs.declared.fault.AgentFault.{AgentFault}
 use Rattle.agent_core.specs.declared.fault.AgentFault.TheVariants.{Refused, Health, DiskFault, NotADatabase, Damaged, Reopen, Exists, Memory}
-use Rattle.agent_core.specs.Faults.{fault_of, IsOpening, IsUnopened, IsUnreplayed}
+use Rattle.agent_core.specs.Faults.{fault_of, unread, IsOpening, IsUnopened, IsUnreplayed}
 use Rattle.agent_core.specs.Notes.{IsDamaged}
 
 -- ---- what a fault of a store is for an agent
@@ -96,6 +99,15 @@ pub never-four : (fault : AgentFault) → fault ≡ Damaged 4 → (fault ≡ Mem
 never-four fault damaged (inl memory) = absurd cc
 never-four fault damaged (inr notes) = absurd (omega (arith, same-part 4 5 (sym damaged ∙ notes)))
 
+-- ---- an entry that was not taken
+pub unread-next : (told : EntryRefusal) → unread told ≡ Damaged 5 → told ≡ refusal.NotNext
+unread-next refusal.NotNext is = refl
+unread-next refusal.Memory is = cc
+
+pub unread-either : (told : EntryRefusal) → (unread told ≡ Memory) ⊎ (unread told ≡ Damaged 5)
+unread-either refusal.NotNext = inr refl
+unread-either refusal.Memory = inl refl
+
 -- ---- the parts
 
 -- a replay says that part 4 or part 5 is damaged
@@ -109,6 +121,12 @@ never-below part below is = elim (unreplayed-parts part is) [ inl e ↦ absurd (
 
 pub only-four : (part : ℕ) → part ≤ 4 → IsUnreplayed (Damaged part) → Damaged part ≡ Damaged 4
 only-four part below is = elim (unreplayed-parts part is) [ inl e ↦ ap (λ (n : ℕ). Damaged n) e | inr e ↦ absurd (omega (arith, below, e)) ]
+
+-- a replay never finds no database
+pub never-none : IsUnreplayed NotADatabase → ⊥
+never-none (inl e) = cc
+never-none (inr (inl e)) = cc
+never-none (inr (inr e)) = cc
 
 -- a store is opened without its notes
 pub no-notes : IsUnopened (Damaged 5) → ⊥
@@ -162,3 +180,32 @@ told-on {T = T} {U = U} result fault answer is same = is ∙ ap (λ (f : AgentFa
 pub err-weaker : {T E : Type 0} (result : Result T E) (P Q : E → Type 0) → ((fault : E) → P fault → Q fault) → IfErr result P → IfErr result Q
 err-weaker (Ok value) P Q weaker holds = tt
 err-weaker (Err fault) P Q weaker holds = weaker fault holds
+
+-- ---- a failure of the disk
+
+never-disk : IsUnreplayed DiskFault → ⊥
+never-disk (inl e) = cc
+never-disk (inr (inl e)) = cc
+never-disk (inr (inr e)) = cc
+
+-- it failed the opening exactly where it failed that of the store
+pub told-cause : {T U : Type 0} (old new : ℕ) (result : Result T AgentFault) (fault : AgentFault) → result ≡ failed_with fault → HasCause old new (IsErrOf result DiskFault)
+    → HasCause old new (IsErrOf (failed_with {T = U} fault) DiskFault)
+told-cause {T = T} {U = U} old new result fault is cause = record {
+  later = cause.later;
+  failed = λ failed. cause.failed (told-on {T = T} {U = U} result fault DiskFault is failed);
+  stays = λ other. cause.stays (λ failed. other (ap (λ (f : AgentFault). failed_with {T = U} f) (one-told {T = T} fault DiskFault (sym is ∙ failed))));
+}
+
+-- and it fails no replay
+pub replayed-cause : {T U : Type 0} (old new : ℕ) (result : Result T AgentFault) (value : T) (replayed : Result U AgentFault) → result ≡ Ok value → HasCause old new (IsErrOf result DiskFault)
+    → IfErr replayed IsUnreplayed → HasCause old new (IsErrOf replayed DiskFault)
+replayed-cause old new result value replayed is cause faults = record {
+  later = cause.later;
+  failed = λ failed. absurd (by replayed failed faults);
+  stays = λ other. cause.stays (λ failed. cc);
+}
+  where
+    by : {U : Type 0} (replayed : Result U AgentFault) → IsErrOf replayed DiskFault → IfErr replayed IsUnreplayed → ⊥
+    by (Ok given) failed faults = cc
+    by (Err fault) failed faults = never-disk (subst IsUnreplayed (one-told fault DiskFault failed) faults)

@@ -126,44 +126,6 @@ impl Agent {
         ensures { Creates H.honest (H.seen host.old)
             settings.now result (H.seen host.new) }
     {
-        Agent::make(alloc, host, settings)
-    }
-
-    fn make<H: Host>(alloc: Global, host: &mut H, settings: &Settings) -> Result<Agent, AgentFault>
-        requires { InLimits settings.now }
-        ensures any_moment { H.honest → Throughout (EveryDisk
-            (λ disk. IsDisk (H.seen host.old).past disk ⊎ StandsForNew settings.now disk))
-            (H.seen host.old).past (H.seen host.new).past }
-        ensures created { IfOk result
-            (λ agent. H.honest → IsAgentOf (H.seen host.new).past agent settings.now []) }
-        ensures ready { IfOk result (AgentIsReady H.honest (H.seen host.new).past) }
-        ensures new { IfOk result (IsNewAgent settings.now) }
-        ensures exists { IsErrOf result AgentFault.Exists → H.honest
-            → is_made (reads_as (H.seen host.old).past) ≡ true }
-        ensures none { OnOk result (H.honest → is_made (reads_as (H.seen host.old).past) ≡ false) }
-        ensures made { H.honest → is_made (reads_as (H.seen host.old).past) ≡ true
-            → (IsErrOf result AgentFault.Exists
-            ⊎ (IsErrOf result AgentFault.DiskFault ⊎ IsErrOf result AgentFault.Memory))
-            × ReadsAsBefore (H.seen host.old).past (H.seen host.new).past }
-        ensures made_moment { H.honest → is_made (reads_as (H.seen host.old).past) ≡ true
-            → Throughout (EveryDisk (IsDisk (H.seen host.old).past)) (H.seen host.old).past
-            (H.seen host.new).past }
-        ensures memory { IsErrOf result AgentFault.Memory → H.honest
-            → ReadsAsBefore (H.seen host.old).past (H.seen host.new).past }
-        ensures memory_moment { IsErrOf result AgentFault.Memory → H.honest
-            → Throughout (EveryDisk (IsDisk (H.seen host.old).past)) (H.seen host.old).past
-            (H.seen host.new).past }
-        ensures faults { IfErr result IsCreating }
-        ensures cause { HasCause (H.seen host.old).disk_faults (H.seen host.new).disk_faults
-            (IsErrOf result AgentFault.DiskFault) }
-        ensures bound { (limit : ℕ) → side_limit 0 ≤ limit → H.honest
-            → IsWithin (share settings.now limit) (H.seen host.old).past
-            → Throughout (IsWithin (share settings.now limit)) (H.seen host.old).past
-            (H.seen host.new).past }
-        ensures only_here { H.honest
-            → OnlyOwn (H.seen host.old).past (H.seen host.new).past }
-        ensures tells { (H.seen host.new).tell_faults ≡ (H.seen host.old).tell_faults }
-    {
         let left = Left::new(alloc)?;
         let side = write_left(alloc, &left, 0)?;
         match Store::create(alloc, host, settings, side) {
@@ -198,54 +160,6 @@ impl Agent {
     pub fn open<H: Host>(alloc: Global, host: &mut H) -> Result<Agent, AgentFault>
         ensures { Opens H.honest (H.seen host.old)
             result (H.seen host.new) }
-    {
-        Agent::load(alloc, host)
-    }
-
-    fn load<H: Host>(alloc: Global, host: &mut H) -> Result<Agent, AgentFault>
-        ensures opened { IfOk result
-            (λ agent. H.honest → (set : ASettings) (h : List HistoryBeat)
-            → StandsForHistory set h (reads_as (H.seen host.old).past)
-            → IsAgentOf (H.seen host.new).past agent set h) }
-        ensures ready { IfOk result (AgentIsReady H.honest (H.seen host.new).past) }
-        ensures going { IfOk result (λ agent. agent.fault ≡ None) }
-        ensures left { IfOk result
-            (λ agent. H.honest → (stored : AStored)
-            → Stands stored (reads_as (H.seen host.old).past) → HasLeft stored agent) }
-        ensures any_moment { H.honest
-            → Throughout (EveryDisk (IsDisk (H.seen host.old).past)) (H.seen host.old).past
-            (H.seen host.new).past }
-        ensures same { H.honest → (file : AFile)
-            → reads_as (H.seen host.new).past file ≡ reads_as (H.seen host.old).past file }
-        ensures images { OnOk result (H.honest → (set : ASettings) (h : List HistoryBeat)
-            → StandsForHistory set h (reads_as (H.seen host.old).past)
-            → EveryDisk (StandsForHistory set h) (H.seen host.new).past) }
-        ensures stands { H.honest → (set : ASettings) (h : List HistoryBeat)
-            → StandsForHistory set h (reads_as (H.seen host.old).past)
-            → IfErr result (λ fault. (fault ≡ AgentFault.DiskFault) ⊎ (fault ≡ AgentFault.Memory)) }
-        ensures none { IsErrOf result AgentFault.NotADatabase → H.honest
-            → is_made (reads_as (H.seen host.old).past) ≡ false }
-        ensures some { OnOk result (H.honest → is_made (reads_as (H.seen host.old).past) ≡ true) }
-        ensures damaged { (part : ℕ) → part ≤ 4 → IsErrOf result (AgentFault.Damaged part)
-            → H.honest → IsDamaged (reads_as (H.seen host.old).past) }
-        ensures parts { (part : ℕ) → part ≤ 3 → IsErrOf result (AgentFault.Damaged part)
-            → H.honest → IsDamagedIn part (reads_as (H.seen host.old).past) }
-        ensures first { (part other : ℕ) → IsErrOf result (AgentFault.Damaged part) → H.honest
-            → IsDamagedIn other (reads_as (H.seen host.old).past) → other ≡ part }
-        ensures made { (part : ℕ) → IsErrOf result (AgentFault.Damaged part) → H.honest
-            → is_made (reads_as (H.seen host.old).past) ≡ true }
-        ensures notes { OnOk result (H.honest → NotesGo true (reads_as (H.seen host.old).past)) }
-        ensures damaged_notes { IsErrOf result (AgentFault.Damaged 5) → H.honest
-            → NotesGo true (reads_as (H.seen host.old).past) → ⊥ }
-        ensures faults { IfErr result IsOpening }
-        ensures cause { HasCause (H.seen host.old).disk_faults (H.seen host.new).disk_faults
-            (IsErrOf result AgentFault.DiskFault) }
-        ensures bound { (shares : AFile → ℕ) → H.honest
-            → IsWithin shares (H.seen host.old).past
-            → Throughout (IsWithin shares) (H.seen host.old).past (H.seen host.new).past }
-        ensures only_here { H.honest
-            → OnlyOwn (H.seen host.old).past (H.seen host.new).past }
-        ensures tells { (H.seen host.new).tell_faults ≡ (H.seen host.old).tell_faults }
     {
         match open_store(alloc, host) {
             Ok(store) => Agent::replayed(alloc, store, host),

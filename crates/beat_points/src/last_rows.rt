@@ -13,7 +13,7 @@ use crate::{giving, taking};
 use algorithms::{Last, LastList};
 use chart_registry::Registry;
 use history::NumberedBeat;
-use std::alloc::Global;
+use std::alloc::{AllocError, Global};
 use std::marker::Model;
 
 /// The last row in which each series was set, which contracts see as a list by the numbers of the series.
@@ -86,8 +86,19 @@ impl LastRows {
         giving::sorted(points)
     }
 
-    /// Takes the rows of a beat, with its definitions in the registry. A copied beat has no rows, and its
-    /// definitions want room. After an `Err` all is as before.
+    /// Makes room for the series of the registry, which has the definitions of a copied beat: that has no rows. After an
+    /// `Err` all is as before.
+    pub fn make_room(&mut self, registry: &Registry) -> Result<(), AllocError>
+        ensures copied { OnOk result ((h : List Beat) (copy : Copy) → AreLastOf self.old h
+            → registry.now ≡ registry_of (copied copy ∷ h)
+            → AreLastOf self.new (copied copy ∷ h)) }
+        ensures err { OnErr result (self.new ≡ self.old) }
+    {
+        taking::make_room(&mut self.rows, registry.dimensions() as usize)?;
+        Ok(())
+    }
+
+    /// Takes the rows of a beat, with its definitions in the registry. After an `Err` all is as before.
     pub fn apply(&mut self, registry: &Registry, beat: &NumberedBeat) -> Result<(), PointFault>
         requires { IsThere registry.now beat.now }
         ensures ok { OnOk result ((h : List Beat) (opened : OpenBeat) → AreLastOf self.old h
@@ -95,9 +106,6 @@ impl LastRows {
             → IsRegular registry.now opened
             → beat.now ≡ numbered_beat registry.now beat.now.moment opened
             → AreLastOf self.new (collected beat.now.moment opened ∷ h)) }
-        ensures copied { OnOk result ((h : List Beat) (copy : Copy) → AreLastOf self.old h
-            → registry.now ≡ registry_of (copied copy ∷ h) → beat.now.rows ≡ []
-            → AreLastOf self.new (copied copy ∷ h)) }
         ensures err { OnErr result (self.new ≡ self.old) }
     {
         taking::make_room(&mut self.rows, registry.dimensions() as usize)?;
