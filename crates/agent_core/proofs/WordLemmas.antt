@@ -322,19 +322,19 @@ all-stored registry words all =
 
 -- ---- the words by the series of the names of their Data
 
+abbrev at_place : SentWord → Option (Option ℕ) → Option SeriesWord
+at_place word found = option_map (λ (number : ℕ). record { series = number; word = word.word }) (option_and_then (λ (series : Option ℕ). series) found)
+
 -- the series at the place of a word is the one that its name means
 word-named : (registry : Registry) (names : Names) (word : SentWord) → series_word (named_series registry names) word ≡ option_and_then (numbered_point registry) (named_point names word)
-word-named registry names word = ap at (slice_get-map (series_named registry names) names.dimensions word.series) ∙ by (slice_get names.dimensions word.series)
+word-named registry names word = ap (at_place word) (slice_get-map (series_named registry names) names.dimensions word.series) ∙ by (slice_get names.dimensions word.series)
   where
-    abbrev at : Option (Option ℕ) → Option SeriesWord
-    at found = option_map (λ (number : ℕ). record { series = number; word = word.word }) (option_and_then (λ (series : Option ℕ). series) found)
-
     of : (id : List ℕ) (found : Option ChartName) → option_map (λ (number : ℕ). record { series = number; word = word.word }) (option_and_then (λ (chart : ChartName). series_of registry chart.id id) found)
         ≡ option_and_then (numbered_point registry) (option_map (λ (chart : ChartName). record { chart = chart.id; dimension = id; word = word.word }) found)
     of id None = refl
     of id (Some chart) = refl
 
-    by : (found : Option DimName) → at (option_map (series_named registry names) found) ≡ option_and_then (numbered_point registry) (option_and_then (point_of names word.word) found)
+    by : (found : Option DimName) → at_place word (option_map (series_named registry names) found) ≡ option_and_then (numbered_point registry) (option_and_then (point_of names word.word) found)
     by None = refl
     by (Some dimension) = of dimension.id (slice_get names.charts dimension.chart)
 

@@ -308,59 +308,6 @@ impl Agent {
         ensures { Beats H.honest (H.seen host.old) self.old
             beat.now moment result (H.seen host.new) self.new }
     {
-        self.store_beat(host, beat, moment)
-    }
-
-    fn store_beat<H: Host>(
-        &mut self,
-        host: &mut H,
-        beat: &OpenBeat,
-        moment: u32,
-    ) -> Result<Reply, AgentFault>
-        requires ready { AgentIsReady H.honest (H.seen host.old).past self.old }
-        requires is_open { IsOpenBeat beat.now }
-        ensures any_moment { H.honest → (set : ASettings) (h : List HistoryBeat)
-            → IsAgentOf (H.seen host.old).past self.old set h
-            → Throughout (EveryDisk (StandsForOneOf set h
-            (beat_refusal self.old.registry (copies self.old.role) self.old.last moment beat.now)
-            (collected moment beat.now ∷ h))) (H.seen host.old).past (H.seen host.new).past }
-        ensures done { OnOk result
-            (H.honest → (set : ASettings) (h : List HistoryBeat)
-            → IsAgentOf (H.seen host.old).past self.old set h
-            → IsAgentOf (H.seen host.new).past self.new set (collected moment beat.now ∷ h)) }
-        ensures number { IfOk result (λ reply. reply.count ≡ self.new.count) }
-        ensures events { IfOk result
-            (λ reply. H.honest → (set : ASettings) (h : List HistoryBeat)
-            → IsAgentOf (H.seen host.old).past self.old set h
-            → reply.events ≡ events_at set (collected moment beat.now ∷ h)) }
-        ensures counts { OnOk result (self.new.count ≡ raised self.old.count) }
-        ensures last { OnOk result (self.new.last ≡ moment) }
-        ensures refused { self.old.fault ≡ None
-            → RefusedBy
-            (beat_refusal self.old.registry (copies self.old.role) self.old.last moment beat.now)
-            result }
-        ensures untouched { is_due self.old.store ≡ false
-            → self.new.store.body ≡ self.old.store.body }
-        ensures unchanged { IfErr result
-            (λ fault. LeavesAll fault → (self.new ≡ self.old) × (host.new ≡ host.old)) }
-        ensures fault { self.new.fault ≡ fault_after self.old.fault result }
-        ensures reopens { Reopens self.old.fault result }
-        ensures stays { OnErr result
-            ((self.new.count ≡ self.old.count) × (self.new.last ≡ self.old.last)) }
-        ensures id { id_of self.new ≡ id_of self.old }
-        ensures ready { AgentIsReady H.honest (H.seen host.new).past self.new }
-        ensures cause { HasCause (H.seen host.old).disk_faults (H.seen host.new).disk_faults
-            (IsErrOf result AgentFault.DiskFault) }
-        ensures bound { H.honest → (set : ASettings) (h : List HistoryBeat)
-            → IsAgentOf (H.seen host.old).past self.old set h → (limit : ℕ)
-            → side_share set ≤ limit
-            → GrowsWithin set limit (H.seen host.old).past self.old.store
-            (H.seen host.new).past self.new.store }
-        ensures gaps { self.new.gaps ≡ self.old.gaps }
-        ensures only_here { H.honest
-            → OnlyOwn (H.seen host.old).past (H.seen host.new).past }
-        ensures tells { (H.seen host.new).tell_faults ≡ (H.seen host.old).tell_faults }
-    {
         if let Some(cause) = self.fault {
             return Err(AgentFault::Reopen(cause));
         }
@@ -516,50 +463,6 @@ impl Agent {
         requires ready { AgentIsReady H.honest (H.seen host.old).past self.old }
         ensures { SetsHealth H.honest (H.seen host.old) self.old
             text.now result (H.seen host.new) self.new }
-    {
-        self.change_health(host, text)
-    }
-
-    fn change_health<H: Host>(&mut self, host: &mut H, text: &[u8]) -> Result<Reply, AgentFault>
-        requires ready { AgentIsReady H.honest (H.seen host.old).past self.old }
-        ensures any_moment { H.honest → (set : ASettings) (h : List HistoryBeat)
-            → IsAgentOf (H.seen host.old).past self.old set h
-            → Throughout (EveryDisk (StandsForHealth set h text.now)) (H.seen host.old).past
-            (H.seen host.new).past }
-        ensures done { OnOk result
-            (H.honest → (set : ASettings) (h : List HistoryBeat)
-            → IsAgentOf (H.seen host.old).past self.old set h
-            → IsAgentOf (H.seen host.new).past self.new set (health text.now ∷ h)) }
-        ensures number { IfOk result (λ reply. reply.count ≡ self.new.count) }
-        ensures events { IfOk result
-            (λ reply. H.honest → (set : ASettings) (h : List HistoryBeat)
-            → IsAgentOf (H.seen host.old).past self.old set h
-            → reply.events ≡ events_at set (health text.now ∷ h)) }
-        ensures counts { OnOk result (self.new.count ≡ raised self.old.count) }
-        ensures last { self.new.last ≡ self.old.last }
-        ensures registry { self.new.registry ≡ self.old.registry }
-        ensures refused { self.old.fault ≡ None
-            → HealthRefusedBy (health_refusal text.now) result }
-        ensures untouched { is_due self.old.store ≡ false
-            → self.new.store.body ≡ self.old.store.body }
-        ensures unchanged { IfErr result
-            (λ fault. LeavesAll fault → (self.new ≡ self.old) × (host.new ≡ host.old)) }
-        ensures fault { self.new.fault ≡ fault_after self.old.fault result }
-        ensures reopens { Reopens self.old.fault result }
-        ensures stays { OnErr result (self.new.count ≡ self.old.count) }
-        ensures id { id_of self.new ≡ id_of self.old }
-        ensures ready { AgentIsReady H.honest (H.seen host.new).past self.new }
-        ensures cause { HasCause (H.seen host.old).disk_faults (H.seen host.new).disk_faults
-            (IsErrOf result AgentFault.DiskFault) }
-        ensures bound { H.honest → (set : ASettings) (h : List HistoryBeat)
-            → IsAgentOf (H.seen host.old).past self.old set h → (limit : ℕ)
-            → side_share set ≤ limit
-            → GrowsWithin set limit (H.seen host.old).past self.old.store
-            (H.seen host.new).past self.new.store }
-        ensures gaps { self.new.gaps ≡ self.old.gaps }
-        ensures only_here { H.honest
-            → OnlyOwn (H.seen host.old).past (H.seen host.new).past }
-        ensures tells { (H.seen host.new).tell_faults ≡ (H.seen host.old).tell_faults }
     {
         if let Some(cause) = self.fault {
             return Err(AgentFault::Reopen(cause));

@@ -35,7 +35,8 @@ use entry_codec::{
 };
 use fixed_num::Text;
 use history::{
-    ChartDef, ChartDefList, MOST_DIMENSIONS, NumberedChart, NumberedDimension, OpenBeat, OpenDim, OpenDimList, OpenRowList,
+    ChartDef, ChartDefList, MOST_DIMENSIONS, NumberedChart, NumberedDimension, OpenBeat, OpenDim,
+    OpenDimList, OpenRowList,
 };
 use replication::{
     Beat as SentBeat, ChartName, Data, DimName, Names, SeriesWord as SentWord, Verdict,

@@ -261,7 +261,18 @@ fn add_later<H: Host>(
     let mut events = EventList::new(alloc);
     for beat in beats {
         make_room(alloc, store, left, host)?;
-        let more = add_copy(alloc, store, left, host, message, series, &[], &[], beat, false)?;
+        let more = add_copy(
+            alloc,
+            store,
+            left,
+            host,
+            message,
+            series,
+            &[],
+            &[],
+            beat,
+            false,
+        )?;
         add_events(&mut events, more)?;
     }
     Ok(events)
@@ -338,16 +349,7 @@ fn add_beats<H: Host>(
     let charts = numbers.charts.as_slice();
     let dimensions = numbers.dimensions.as_slice();
     let mut events = add_copy(
-        alloc,
-        store,
-        left,
-        host,
-        message,
-        series,
-        charts,
-        dimensions,
-        first,
-        true,
+        alloc, store, left, host, message, series, charts, dimensions, first, true,
     )?;
     let more = add_later(alloc, store, left, host, message, series, rest)?;
     add_events(&mut events, more)?;
