@@ -24,6 +24,7 @@ use Rattle.agent_core.specs.Faults.{fault_of, IsCreating}
 use Rattle.agent_core.specs.Sides.{IsSideOf}
 use Rattle.agent_core.specs.Stands.{StandsForNew}
 use Rattle.agent_core.specs.Left.{IsLeftBy}
+use Rattle.agent_core.proofs.OpenFaults.{told-by}
 use Rattle.agent_core.proofs.StoredLemmas.{stored_new}
 
 -- a crash left this disk before, or it holds no database, or the one with these settings and without beats
@@ -84,15 +85,6 @@ not-made honest host set = record {
 }
 
 -- ---- a failure of the disk under an agent that is made
-told-disk : (fault : StoreFault) → fault_of fault ≡ Some agent_fault.DiskFault → fault ≡ store_fault.DiskFault
-told-disk store_fault.DiskFault is = refl
-told-disk store_fault.NotADatabase is = cc
-told-disk (store_fault.Damaged part) is = cc
-told-disk store_fault.MomentOrder is = cc
-told-disk (store_fault.Reopen cause) is = cc
-told-disk store_fault.Exists is = cc
-told-disk store_fault.Memory is = cc
-
 abbrev failed_as : {A : Type 0} → AgentFault → Result A AgentFault
 failed_as fault = Err fault
 
@@ -113,7 +105,7 @@ pub made-cause : {A B : Type 0} (old new : ℕ) (result : Result A StoreFault) (
     → HasCause old new (result ≡ store_failed_as store_fault.DiskFault) → HasCause old new (failed_as {A = B} told ≡ failed_as agent_fault.DiskFault)
 made-cause {A = A} {B = B} old new result fault told is says cause = record {
   later = cause.later;
-  failed = λ failed. cause.failed (is ∙ ap (λ (f : StoreFault). store_failed_as f) (told-disk fault (says ∙ ap (λ (f : AgentFault). Some f) (one-fault {A = B} told agent_fault.DiskFault failed))));
+  failed = λ failed. cause.failed (is ∙ ap (λ (f : StoreFault). store_failed_as f) (told-by fault agent_fault.DiskFault (says ∙ ap (λ (f : AgentFault). Some f) (one-fault {A = B} told agent_fault.DiskFault failed))));
   stays = λ other. cause.stays (λ failed. other (ap (λ (f : AgentFault). failed_as f) (same-told told agent_fault.DiskFault (sym says ∙ ap fault_of (one-store {A = A} fault store_fault.DiskFault (sym is ∙ failed))))));
 }
 
@@ -131,33 +123,15 @@ made-told {A = A} {B = B} result fault told is says (inr (inl e)) =
 made-told {A = A} {B = B} result fault told is says (inr (inr e)) =
     inr (inr (ap (λ (f : AgentFault). failed_as f) (told-as fault store_fault.Memory told agent_fault.Memory says refl (one-store {A = A} fault store_fault.Memory (sym is ∙ e)))))
 
-told-memory : (fault : StoreFault) → fault_of fault ≡ Some agent_fault.Memory → fault ≡ store_fault.Memory
-told-memory store_fault.DiskFault is = cc
-told-memory store_fault.NotADatabase is = cc
-told-memory (store_fault.Damaged part) is = cc
-told-memory store_fault.MomentOrder is = cc
-told-memory (store_fault.Reopen cause) is = cc
-told-memory store_fault.Exists is = cc
-told-memory store_fault.Memory is = refl
-
 pub made-memory : {A B : Type 0} (result : Result A StoreFault) (fault : StoreFault) (told : AgentFault) → result ≡ store_failed_as fault → fault_of fault ≡ Some told
     → failed_as {A = B} told ≡ failed_as agent_fault.Memory → result ≡ store_failed_as store_fault.Memory
 made-memory {A = A} {B = B} result fault told is says memory =
-    is ∙ ap (λ (f : StoreFault). store_failed_as f) (told-memory fault (says ∙ ap (λ (f : AgentFault). Some f) (one-fault {A = B} told agent_fault.Memory memory)))
-
-told-exists : (fault : StoreFault) → fault_of fault ≡ Some agent_fault.Exists → fault ≡ store_fault.Exists
-told-exists store_fault.DiskFault is = cc
-told-exists store_fault.NotADatabase is = cc
-told-exists (store_fault.Damaged part) is = cc
-told-exists store_fault.MomentOrder is = cc
-told-exists (store_fault.Reopen cause) is = cc
-told-exists store_fault.Exists is = refl
-told-exists store_fault.Memory is = cc
+    is ∙ ap (λ (f : StoreFault). store_failed_as f) (told-by fault agent_fault.Memory (says ∙ ap (λ (f : AgentFault). Some f) (one-fault {A = B} told agent_fault.Memory memory)))
 
 pub made-exists : {A B : Type 0} (result : Result A StoreFault) (fault : StoreFault) (told : AgentFault) → result ≡ store_failed_as fault → fault_of fault ≡ Some told
     → failed_as {A = B} told ≡ failed_as agent_fault.Exists → result ≡ store_failed_as store_fault.Exists
 made-exists {A = A} {B = B} result fault told is says exists =
-    is ∙ ap (λ (f : StoreFault). store_failed_as f) (told-exists fault (says ∙ ap (λ (f : AgentFault). Some f) (one-fault {A = B} told agent_fault.Exists exists)))
+    is ∙ ap (λ (f : StoreFault). store_failed_as f) (told-by fault agent_fault.Exists (says ∙ ap (λ (f : AgentFault). Some f) (one-fault {A = B} told agent_fault.Exists exists)))
 
 -- the faults of a store that is not made
 pub made-faults : (fault : StoreFault) (told : AgentFault) → fault_of fault ≡ Some told → IsCreateFault fault → IsCreating told

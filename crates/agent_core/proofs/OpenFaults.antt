@@ -49,24 +49,25 @@ opens-unopened (store.Reopen cause) answer of is = absurd is
 opens-unopened store.Exists answer of is = absurd is
 opens-unopened store.Memory answer of is = subst IsUnopened (same_Some Memory answer of) tt
 
--- the part that is damaged is that of the store
-pub told-damaged : (fault : StoreFault) (part : ℕ) → fault_of fault ≡ Some (Damaged part) → fault ≡ store.Damaged part
-told-damaged store.DiskFault part of = cc
-told-damaged store.NotADatabase part of = cc
-told-damaged (store.Damaged other) part of = cc
-told-damaged store.MomentOrder part of = cc
-told-damaged (store.Reopen cause) part of = cc
-told-damaged store.Exists part of = cc
-told-damaged store.Memory part of = cc
+-- the fault of a store that is told so
+abbrev pub store_told : AgentFault → StoreFault
+store_told (Refused why) = store.MomentOrder
+store_told (Health why) = store.MomentOrder
+store_told DiskFault = store.DiskFault
+store_told NotADatabase = store.NotADatabase
+store_told (Damaged part) = store.Damaged part
+store_told (Reopen cause) = store.Reopen cause
+store_told Exists = store.Exists
+store_told Memory = store.Memory
 
-pub told-none : (fault : StoreFault) → fault_of fault ≡ Some NotADatabase → fault ≡ store.NotADatabase
-told-none store.DiskFault of = cc
-told-none store.NotADatabase of = refl
-told-none (store.Damaged part) of = cc
-told-none store.MomentOrder of = cc
-told-none (store.Reopen cause) of = cc
-told-none store.Exists of = cc
-told-none store.Memory of = cc
+pub told-by : (fault : StoreFault) (told : AgentFault) → fault_of fault ≡ Some told → fault ≡ store_told told
+told-by store.DiskFault told of = ap store_told (same_Some DiskFault told of)
+told-by store.NotADatabase told of = ap store_told (same_Some NotADatabase told of)
+told-by (store.Damaged part) told of = ap store_told (same_Some (Damaged part) told of)
+told-by store.MomentOrder told of = absurd (none-some told of)
+told-by (store.Reopen cause) told of = ap store_told (same_Some (Reopen cause) told of)
+told-by store.Exists told of = ap store_told (same_Some Exists told of)
+told-by store.Memory told of = ap store_told (same_Some Memory told of)
 
 -- ---- why a beat is not replayed
 pub replays-said : (fault : StoreFault) → IsReplayFault fault → IsSome (fault_of fault)

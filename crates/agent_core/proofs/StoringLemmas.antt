@@ -1,20 +1,13 @@
 -- What a store keeps of a gap and of a copied beat.
 use Rattle.std.proofs.Common.{◌≡◌, ℕ, ◌+◌, ◌<◌, ◌≤◌, ◌^◌, true, List, [], ◌∷◌, length, map, Some, refl, sym, ap, ◌∙◌, subst, arith, length-append, lt-ltb}
-use Rattle.std.specs.List.{enumerate_from, filter_map, find}
-use Rattle.std.specs.Option.{option_map}
-use Rattle.std.specs.Str.{bytes_eq}
 use Rattle.std.proofs.lemmas.Bool.{cond-false, cond-true, le-ltb}
 use Rattle.std.proofs.lemmas.List.Elements.{All-nil}
 use Rattle.host_model.specs.Past.{Event}
-use Rattle.history.specs.declared.beat.OpenBeat.{OpenBeat}
-use Rattle.history.specs.declared.beat.OpenRow.{OpenRow}
-use Rattle.history.specs.declared.chart.ChartDef.{ChartDef}
-use Rattle.history.specs.declared.row.Row.{Row}
 use Rattle.history.specs.declared.numbered.NumberedChart.{NumberedChart}
 use Rattle.history.specs.declared.numbered.NumberedDimension.{NumberedDimension}
 use Rattle.history.specs.History.{Beat, copied, missing, registry_of, Copy, Gap}
 use Rattle.history.specs.Limits.{chart_keeps_limits, dimension_keeps_limits}
-use Rattle.history.specs.Numbered.{numbered_charts, numbered_dimensions, numbered_rows, numbered_values}
+use Rattle.history.specs.Numbered.{numbered_charts, numbered_dimensions}
 use Rattle.history.specs.Registry.{Registry}
 use Rattle.entry_codec.specs.declared.entry.Entry.TheVariants as entry
 use Rattle.tier_settings.specs.declared.settings.Settings.{Settings}
@@ -94,18 +87,6 @@ module _ (registry : Registry) (message : Data) (charts : List NumberedChart) (d
         }));
         spelt = subst HasSpelling entry-same spelt;
       }
-
-abbrev no_row : List Row
-no_row = []
-
--- and by number it has none
-pub no-numbered-rows : (registry : Registry) (beat : OpenBeat) → beat.rows ≡ [] → numbered_rows registry beat ≡ []
-no-numbered-rows registry beat none = ap (λ (rows : List OpenRow). numbered_rows registry (record beat { rows = rows })) none ∙ by registry.charts 0
-  where
-    by : (defs : List ChartDef) (n : ℕ) → filter_map (λ (place : ℕ × ChartDef). option_map (λ (row : OpenRow). record { chart = place.0; values = numbered_values registry row })
-        (find (λ (row : OpenRow). bytes_eq place.1.id row.chart) [])) (enumerate_from n defs) ≡ no_row
-    by [] n = refl
-    by (def ∷ defs) n = by defs (n + 1)
 
 -- a beat that defines nothing keeps the limits
 pub nothing-within : IsWithinLimits (defining [] [])

@@ -327,7 +327,7 @@ impl Agent {
                 return Err(AgentFault::Memory);
             }
         };
-        match self.add_beat(host, beat, moment, &numbered) {
+        match self.add_beat(host, &numbered) {
             Ok(()) => {
                 let stepping = Stepping::Beat(moment, defines_some(beat));
                 self.tell(host, stepping, moment)
@@ -339,36 +339,30 @@ impl Agent {
         }
     }
 
-    /// Adds a beat that was judged: first makes a checkpoint where one is due, and then has the registry take what the
-    /// beat defines. The alarms have still to follow it. After an `Err` nothing of the store and of what was left is
-    /// of use.
-    fn add_beat<H: Host>(
-        &mut self,
-        host: &mut H,
-        beat: &OpenBeat,
-        moment: u32,
-        numbered: &NumberedBeat,
-    ) -> Result<(), AgentFault>
+    /// Adds a beat that was judged, by number: first makes a checkpoint where one is due, and then has the registry take
+    /// what the beat defines. The alarms have still to follow it. After an `Err` nothing of the store and of what was left
+    /// is of use.
+    fn add_beat<H: Host>(&mut self, host: &mut H, numbered: &NumberedBeat) -> Result<(), AgentFault>
         requires fits { Fits H.honest (H.seen host.old).past self.old }
-        requires is_open { IsOpenBeat beat.now }
-        requires later { self.old.last < moment }
-        requires content { content_refusal self.old.registry moment beat.now ≡ None }
-        requires numbered { numbered.now
-            ≡ numbered_beat (with_beat self.old.registry beat.now) moment beat.now }
-        ensures any_moment { H.honest → (set : ASettings) (h : List HistoryBeat)
+        requires later { self.old.last < numbered.now.moment }
+        requires judged { (beat : AnOpenBeat) × IsJudged self.old.registry beat numbered.now }
+        ensures any_moment { H.honest → (moment : ℕ) (beat : AnOpenBeat) (set : ASettings)
+            (h : List HistoryBeat) → IsJudgedAt self.old.registry moment beat numbered.now
             → HoldsHistory (H.seen host.old).past self.old.store set h
-            → IsLeftBy set h (left_in self.old) → Follows h moment beat.now
+            → IsLeftBy set h (left_in self.old) → Follows h moment beat
             → Throughout (EveryDisk (λ disk. StandsForHistory set h disk
-            ⊎ StandsForHistory set (collected moment beat.now ∷ h) disk)) (H.seen host.old).past
+            ⊎ StandsForHistory set (collected moment beat ∷ h) disk)) (H.seen host.old).past
             (H.seen host.new).past }
-        ensures done { OnOk result (H.honest → (set : ASettings) (h : List HistoryBeat)
+        ensures done { OnOk result (H.honest → (moment : ℕ) (beat : AnOpenBeat)
+            (set : ASettings) (h : List HistoryBeat)
+            → IsJudgedAt self.old.registry moment beat numbered.now
             → HoldsHistory (H.seen host.old).past self.old.store set h
-            → IsLeftBy set h (left_in self.old) → Follows h moment beat.now
-            → HoldsHistory (H.seen host.new).past self.new.store set
-            (collected moment beat.now ∷ h)
-            × AwaitsAlarms set h (collected moment beat.now) (left_in self.new)) }
-        ensures registry { OnOk result
-            (self.new.registry ≡ with_beat self.old.registry beat.now) }
+            → IsLeftBy set h (left_in self.old) → Follows h moment beat
+            → HoldsHistory (H.seen host.new).past self.new.store set (collected moment beat ∷ h)
+            × AwaitsAlarms set h (collected moment beat) (left_in self.new)) }
+        ensures registry { OnOk result ((beat : AnOpenBeat)
+            → IsJudged self.old.registry beat numbered.now
+            → self.new.registry ≡ with_beat self.old.registry beat) }
         ensures charts { OnOk result (AreApart same_chart self.new.registry.charts) }
         ensures dimensions { OnOk result
             (AreApart same_dimension self.new.registry.dimensions) }
@@ -384,7 +378,7 @@ impl Agent {
         ensures gaps { self.new.gaps ≡ self.old.gaps }
         ensures keeps { KeepsStore H.honest (H.seen host.old) self.old.store result
             (H.seen host.new) self.new.store }
-        ensures stored { OnOk result (self.new.store.tiers.last ≡ moment) }
+        ensures stored { OnOk result (self.new.store.tiers.last ≡ numbered.now.moment) }
         ensures stays { self.new ≡ record self.old {
           store = self.new.store;
           registry = self.new.registry;
@@ -395,10 +389,8 @@ impl Agent {
         } }
     {
         make_room(self.alloc, &mut self.store, &self.left, host)?;
-        match define_beat(&mut self.left.registry, moment, beat, numbered) {
-            Ok(()) => add(self.alloc, &mut self.store, &mut self.left, host, numbered),
-            Err(_) => Err(AgentFault::Memory),
-        }
+        define_beat(&mut self.left.registry, numbered)?;
+        add(self.alloc, &mut self.store, &mut self.left, host, numbered)
     }
 
     /// Has the alarms follow a beat that is stored, and counts it. This is then the last moment.

@@ -35,9 +35,9 @@ use crate::fault::AgentFault;
 use crate::keeping::{commit, make_room, see_copy};
 use crate::left::{Left, Role};
 use alarm_core::EventList;
-use beat_entries::{number_beat, untaken};
+use beat_entries::{NumberedDefinitions, number_definitions};
 use chart_registry::Registry;
-use history::{ChartList, DimensionList, NumberedChart, NumberedDimension, OpenBeat};
+use history::{NumberedChart, NumberedDimension, OpenBeat};
 use host_model::Host;
 use replication::{Beat as SentBeat, Data, Names};
 use side_codec::GapSpan;
@@ -298,13 +298,13 @@ fn add_beats<H: Host>(
     requires own { AreApart same_dimension left.old.registry.dimensions }
     requires registry { HasLimits left.old.registry }
     requires sent { AreSent store.old.tiers.last message.now beats.now }
-    requires charts { numbers.now.charts
+    requires charts { numbers.now.definitions.charts
         ≡ numbered_charts left.old.registry (definitions_in message.now.names) }
-    requires dimensions { numbers.now.dimensions
+    requires dimensions { numbers.now.definitions.dimensions
         ≡ numbered_dimensions left.old.registry (definitions_in message.now.names) }
-    requires within { IsWithinLimits (defining numbers.now.charts numbers.now.dimensions) }
+    requires within { IsWithinLimits (defining numbers.now.definitions.charts numbers.now.definitions.dimensions) }
     requires canonical { is_collected_canonical
-        (defining numbers.now.charts numbers.now.dimensions) ≡ true }
+        (defining numbers.now.definitions.charts numbers.now.definitions.dimensions) ≡ true }
     requires series { numbers.now.series.items
         ≡ named_series left.old.registry message.now.names }
     ensures any_moment { H.honest → (before : ARegistry) (set : ASettings)
@@ -346,8 +346,8 @@ fn add_beats<H: Host>(
         return Ok(EventList::new(alloc));
     };
     let series = numbers.series.as_slice();
-    let charts = numbers.charts.as_slice();
-    let dimensions = numbers.dimensions.as_slice();
+    let charts = numbers.definitions.charts.as_slice();
+    let dimensions = numbers.definitions.dimensions.as_slice();
     let mut events = add_copy(
         alloc, store, left, host, message, series, charts, dimensions, first, true,
     )?;
@@ -424,16 +424,14 @@ fn add_gap_before<H: Host>(
 /// What a message says by number.
 #[derive(Drop)]
 struct Numbers {
-    /// The charts that it defines.
-    charts: ChartList,
-    /// And the dimensions.
-    dimensions: DimensionList,
+    /// What it defines.
+    definitions: NumberedDefinitions,
     /// The series of its names of dimensions, by place.
     series: Vec<Option<u32>>,
 }
 
-/// Takes the definitions of a message that a registry was tested for, and gives them and its names by number. After an
-/// `Err` it may have taken them.
+/// Takes the definitions of a message, against which the registry has nothing, and gives them and its names by number.
+/// After an `Err` it may have taken them.
 fn define(
     alloc: Global,
     registry: &mut Registry,
@@ -450,13 +448,13 @@ fn define(
     ensures applied { OnOk result
         (registry.new ≡ with_definitions registry.old defs.now.charts defs.now.dimensions) }
     ensures numbered_charts { IfOk result
-        (λ numbers. numbers.charts ≡ numbered_charts registry.new defs.now) }
+        (λ numbers. numbers.definitions.charts ≡ numbered_charts registry.new defs.now) }
     ensures numbered_dimensions { IfOk result
-        (λ numbers. numbers.dimensions ≡ numbered_dimensions registry.new defs.now) }
+        (λ numbers. numbers.definitions.dimensions ≡ numbered_dimensions registry.new defs.now) }
     ensures within { IfOk result
-        (λ numbers. IsWithinLimits (defining numbers.charts numbers.dimensions)) }
+        (λ numbers. IsWithinLimits (defining numbers.definitions.charts numbers.definitions.dimensions)) }
     ensures canonical { IfOk result (λ numbers.
-        is_collected_canonical (defining numbers.charts numbers.dimensions) ≡ true) }
+        is_collected_canonical (defining numbers.definitions.charts numbers.definitions.dimensions) ≡ true) }
     ensures series { IfOk result
         (λ numbers. numbers.series.items ≡ named_series registry.new names.now) }
     ensures charts { OnOk result (AreApart same_chart registry.new.charts) }
@@ -464,21 +462,15 @@ fn define(
     ensures limits { OnOk result (HasLimits registry.new) }
     ensures memory { IfErr result (λ fault. fault ≡ AgentFault.Memory) }
 {
-    match registry.apply(defs) {
-        Ok(()) => {
-            let numbered = number_beat(alloc, registry, 0, defs)?;
-            let series = named_series(alloc, registry, names)?;
-            Ok(Numbers {
-                charts: numbered.charts,
-                dimensions: numbered.dimensions,
-                series,
-            })
-        }
-        Err(fault) => {
-            let _none = untaken(fault);
-            Err(AgentFault::Memory)
-        }
-    }
+    let definitions = number_definitions(alloc, registry, defs)?;
+    let charts = definitions.charts.as_slice();
+    let dimensions = definitions.dimensions.as_slice();
+    registry.take_definitions(charts, dimensions)?;
+    let series = named_series(alloc, registry, names)?;
+    Ok(Numbers {
+        definitions,
+        series,
+    })
 }
 
 /// Adds the gap and the beats of a message that begins where the history ends, and gives the events of all of them;

@@ -230,7 +230,7 @@ add_later-requires-clause-series g c =
 pub add_copy-requires-clause-within : goal.add_copy-requires-clause-within
 add_copy-requires-clause-within g c =
     subst (λ (ds : List NumberedDimension). IsWithinLimits (defining c.as_slice-charts.result.now ds)) (sym c.as_slice-dimensions.ensures)
-    (subst (λ (cs : List NumberedChart). IsWithinLimits (defining cs c.args.numbers.now.dimensions)) (sym c.as_slice-charts.ensures) c.requires.within)
+    (subst (λ (cs : List NumberedChart). IsWithinLimits (defining cs c.args.numbers.now.definitions.dimensions)) (sym c.as_slice-charts.ensures) c.requires.within)
 
 pub add_copy-requires-clause-canonical : goal.add_copy-requires-clause-canonical
 add_copy-requires-clause-canonical g c = (λ i. is_collected_canonical (defining (c.as_slice-charts.ensures i) (c.as_slice-dimensions.ensures i))) ∙ c.requires.canonical

@@ -1,4 +1,4 @@
-use Rattle.std.proofs.Common.{rules, ◌≡◌, ◌+◌, List, [], Option, length, None, Some, true, false, Bool, Result, Ok, Err, subst, sym, ap, ◌∙◌, if◌then◌else◌, refl, true≢false}
+use Rattle.std.proofs.Common.{arith, rules, ◌≡◌, ◌+◌, List, [], Option, length, None, Some, true, false, Bool, Result, Ok, Err, subst, sym, ap, ◌∙◌, if◌then◌else◌, refl, true≢false}
 use Rattle.host_model.specs.Disks.{EveryDisk}
 use Rattle.host_model.specs.Moments.{Throughout}
 use Rattle.host_model.specs.Seen.{Seen}
@@ -34,7 +34,7 @@ returns-then-not-is_stored g c =
     let left : is_stored (agent_verdict agent message) ≡ false = search rules in
     let going : agent.fault ≡ None = ap (λ (a : AgentState). a.fault) (sym c.self.view_is) ∙ c.in_default.is in
     let count = ap (λ (a : AgentState). a.count) c.self.view_is in
-    message-left g.H.Host.honest (g.H.Host.seen c.args.host.now) agent message going c.requires.ready left (search rules) _ c.nothing_stored.result c.verdict-verdict.ensures (c.nothing_stored.ensures.reply ∙ (λ i. record { count = count i; events = [] }))
+    message-left g.H.Host.honest (g.H.Host.seen c.args.host.now) agent message going c.requires.ready left (omega (arith, c.nothing_stored.ensures.within, count)) _ c.nothing_stored.result c.verdict-verdict.ensures (c.nothing_stored.ensures.reply ∙ (λ i. record { count = count i; events = [] }))
 
 pub returns-in-Some-copy_refusal : goal.returns-in-Some-copy_refusal
 returns-in-Some-copy_refusal g c =
