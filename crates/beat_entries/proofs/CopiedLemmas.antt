@@ -26,7 +26,7 @@ use Rattle.beat_entries.proofs.DefinedLemmas.{beat-defined, chart-has, dimension
 use Rattle.beat_entries.proofs.EntryLemmas.{if-some}
 use Rattle.beat_entries.proofs.FollowLemmas.{all-places, beat-goes-on, if-true, last-is}
 use Rattle.beat_entries.proofs.Gathering.{map-some}
-use Rattle.beat_entries.proofs.Steps.{and-no}
+use Rattle.chart_registry.proofs.Steps.{and-no}
 
 -- ---- mapped lists
 mapped-back : {X Y : Type 0} (P : Y → Type 0) (tell : Y → X) (full : X → Y) → ((y : Y) → P y → full (tell y) ≡ y) → (ys : List Y) → AllByRecursion P ys → map full (map tell ys) ≡ ys

@@ -23,7 +23,7 @@ use Rattle.chart_registry.proofs.Finding.{found-all, found-passes, all-weaker}
 use Rattle.beat_entries.specs.Following.{AreOwned}
 use Rattle.beat_entries.specs.Defined.{IsDefinedIn}
 use Rattle.history.specs.Numbered.{numbered_dimension}
-use Rattle.beat_entries.specs.Next.{chart_def, dimension_back}
+use Rattle.chart_registry.specs.Taking.{chart_def, dimension_back}
 use Rattle.beat_entries.proofs.EntryLemmas.{any-find, at-found, own-chart}
 use Rattle.beat_entries.proofs.PutLemmas.{put-found}
 

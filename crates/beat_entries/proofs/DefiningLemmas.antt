@@ -16,29 +16,10 @@ use Rattle.history.specs.declared.chart.ChartDef.{ChartDef}
 use Rattle.history.specs.Numbered.{IsThere}
 use Rattle.history.specs.Put.{put_all}
 use Rattle.history.specs.Registry.{Registry, chart_of, same_chart, same_dimension}
-use Rattle.chart_registry.proofs.Applying.{put_all-push}
 use Rattle.chart_registry.proofs.Finding.{all-weaker}
-use Rattle.beat_entries.specs.Next.{all_taken, chart_def, takes_chart, with_chart, dimension_back, takes_dimension, with_dimension, is_number, is_of_chart, takes_row, with_charts, with_dimensions, with_numbered, goes_on}
-use Rattle.beat_entries.proofs.Steps.{and-no, take-prefix}
-
--- ---- one definition more
-mapped-push : {X A : Type 0} (f : X → A) (same : A → A → Bool) (ys : List A) (xs : List X) (i : ℕ) (x : X) → i < length xs → get_or xs i x ≡ x
-    → put_all same (put_all same ys (map f (take i xs))) (f x ∷ []) ≡ put_all same ys (map f (take (i + 1) xs))
-mapped-push f same ys xs i x within at =
-    sym (put_all-push same ys (map f (take i xs)) (f x))
-    ∙ ap (put_all same ys) (sym (map-append f (take i xs) (x ∷ [])) ∙ ap (map f) (take-prefix xs i x within at))
-
-pub charts-pushed : (first old new : Registry) (charts : List NumberedChart) (i : ℕ) (chart : NumberedChart) → i < length charts → get_or charts i chart ≡ chart
-    → old ≡ with_charts first (take i charts) → new ≡ with_chart old chart → new ≡ with_charts first (take (i + 1) charts)
-charts-pushed first old new charts i chart within at before made =
-    made ∙ ap (λ (r : Registry). with_chart r chart) before
-    ∙ ap (λ (defs : List ChartDef). record { charts = defs; dimensions = first.dimensions }) (mapped-push chart_def same_chart first.charts charts i chart within at)
-
-pub dimensions-pushed : (first old new : Registry) (dimensions : List NumberedDimension) (i : ℕ) (dimension : NumberedDimension) → i < length dimensions → get_or dimensions i dimension ≡ dimension
-    → old ≡ with_dimensions first (take i dimensions) → new ≡ with_dimension old dimension → new ≡ with_dimensions first (take (i + 1) dimensions)
-dimensions-pushed first old new dimensions i dimension within at before made =
-    made ∙ ap (λ (r : Registry). with_dimension r dimension) before
-    ∙ ap (λ (opens : List OpenDim). record { charts = first.charts; dimensions = opens }) (mapped-push (dimension_back first) same_dimension first.dimensions dimensions i dimension within at)
+use Rattle.chart_registry.specs.Taking.{all_taken, is_number, takes_chart, takes_dimension, with_chart, with_charts, with_dimension, with_dimensions}
+use Rattle.beat_entries.specs.Next.{is_of_chart, takes_row, with_numbered, goes_on}
+use Rattle.chart_registry.proofs.Steps.{and-no}
 
 -- ---- the whole beat
 module _ (first mid : Registry) (beat : NumberedBeat) (mid_is : mid ≡ with_charts first beat.charts) where

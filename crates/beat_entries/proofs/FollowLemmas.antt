@@ -1,5 +1,5 @@
 -- A numbered beat that may follow goes on from what stands before it.
-use Rattle.std.proofs.Common.{◌≡◌, ℕ, zero, suc, ◌+◌, ◌<◌, ◌≤◌, Bool, true, false, cond, ◌&&◌, List, [], ◌∷◌, map, length, position, slice_get, Option, Some, None, IsSome, IfSome, refl, sym, ap, subst, ◌∙◌, arith, add-zero, zero-add, lt-ltb, if◌then◌else◌}
+use Rattle.std.proofs.Common.{◌≡◌, ℕ, zero, suc, ◌+◌, ◌<◌, ◌≤◌, Bool, true, false, cond, not, ◌&&◌, List, [], ◌∷◌, map, length, position, get_or, slice_get, is_some, All, Option, Some, None, IsSome, IfSome, refl, sym, ap, subst, ◌∙◌, arith, add-zero, zero-add, lt-ltb, if◌then◌else◌}
 use Rattle.std.specs.List.{find, list_any, list_all, filter_map, cons_option, count_by, enumerate_from, AllByRecursion}
 use Rattle.std.specs.Option.{option_map, option_and_then}
 use Rattle.std.specs.Str.{bytes_eq}
@@ -8,8 +8,10 @@ use Rattle.std.proofs.lemmas.List.Elements.{recursion_from_All}
 use Rattle.std.proofs.lemmas.List.Sums.{sum_by-cons}
 use Rattle.std.proofs.lemmas.Option.{none-some, same_Some, slice_get_within}
 use Rattle.chart_registry.specs.Defining.{chart_id}
+use Rattle.chart_registry.proofs.Places.{list_any-position}
 use Rattle.chart_registry.proofs.RegistryLemmas.{or_false, chart_id-chart_of, chart_of-within}
 use Rattle.chart_registry.proofs.RowsLemmas.{same_text, bytes_eq_same}
+use Rattle.history.specs.declared.numbered.NumberedChart.{NumberedChart}
 use Rattle.history.specs.declared.numbered.NumberedDimension.{NumberedDimension}
 use Rattle.history.specs.declared.numbered.NumberedBeat.{NumberedBeat}
 use Rattle.history.specs.declared.row.Row.{Row}
@@ -23,14 +25,16 @@ use Rattle.history.specs.History.{Beat, collected, registry_of}
 use Rattle.history.specs.Limits.{chart_keeps_limits, dimension_keeps_limits}
 use Rattle.history.specs.Looking.{is_value}
 use Rattle.history.specs.Put.{put_all}
-use Rattle.history.specs.Registry.{Registry, is_chart, is_dimension, same_chart, same_dimension, chart_of}
+use Rattle.history.specs.Refusal.{is_new_dimension}
+use Rattle.history.specs.Registry.{Registry, is_chart, is_dimension, is_of, same_chart, same_dimension, chart_of, with_definitions}
 use Rattle.history.specs.Regular.{AreApart, IsRegular}
 use Rattle.chart_registry.proofs.ApartLemmas.{apart-charts, apart-filter, apart-registry, own-series, turned}
 use Rattle.chart_registry.proofs.Finding.{found-all, found-passes, nat_eq_same, one_if}
 use Rattle.beat_entries.specs.Following.{AreOwned, MayFollow}
 use Rattle.beat_entries.specs.Defined.{IsDefinedIn}
-use Rattle.history.specs.Numbered.{numbered_dimension, numbered_value, numbered_values, numbered_rows, numbered_beat}
-use Rattle.beat_entries.specs.Next.{all_taken, chart_def, takes_chart, with_chart, dimension_back, takes_dimension, with_dimension, is_number, is_of_chart, takes_row, with_charts, with_dimensions, with_numbered, goes_on}
+use Rattle.history.specs.Numbered.{numbered_charts, numbered_dimension, numbered_dimensions, numbered_value, numbered_values, numbered_rows, numbered_beat}
+use Rattle.chart_registry.specs.Taking.{all_taken, chart_def, takes_chart, with_chart, dimension_back, takes_dimension, with_dimension, is_number, with_charts, with_dimensions}
+use Rattle.beat_entries.specs.Next.{is_of_chart, takes_row, with_numbered, goes_on}
 use Rattle.beat_entries.proofs.DefinedLemmas.{chart-itself, chart-alike, dimension-itself, dimension-alike, beat-defined, chart-has, charts-back, dimension-has, dimensions-back}
 use Rattle.beat_entries.proofs.EntryLemmas.{own-chart, if-some}
 use Rattle.beat_entries.proofs.Gathering.{map-some}
@@ -176,41 +180,50 @@ module _ (r : Registry) (beat : OpenBeat) (defined : IsDefinedIn r beat) (regula
       let parts = map-some (λ (row : OpenRow). record { chart = n; values = numbered_values r row }) (find (λ (row : OpenRow). bytes_eq a.id row.chart) beat.rows) c e in
       subst (λ (c : Row). takes_row r c ≡ true) parts.1.1 (row-goes n a parts.0 at parts.1.0)))
 
--- ---- the whole beat
-module _ (h : List Beat) (moment : ℕ) (beat : OpenBeat) (owned : AreOwned (registry_of h) beat) where
-  abbrev first : Registry
-  first = registry_of h
+-- ---- a registry that takes what a beat defines
+-- What the beat defines may be taken: it keeps its limits, each chart has an update_every, which is the one that it has
+-- had, and there is room for what is new.
+pub record MayTake (first : Registry) (beat : OpenBeat) : Type 0 where
+  pub grids : All (λ (def : ChartDef). 0 < def.update_every) beat.charts
+  pub kept : All (λ (def : ChartDef). (old : ChartDef) → find (is_chart def.id) first.charts ≡ Some old → old.update_every ≡ def.update_every) beat.charts
+  pub chart_limits : All (λ (def : ChartDef). chart_keeps_limits def ≡ true) beat.charts
+  pub dimension_limits : All (λ (dimension : OpenDim). dimension_keeps_limits dimension.def ≡ true) beat.dimensions
+  pub charts : length (with_definitions first beat.charts beat.dimensions).charts ≤ 4096
+  pub dimensions : length (with_definitions first beat.charts beat.dimensions).dimensions ≤ 65536
+  pub room : All (λ (dimension : OpenDim). is_new_dimension first dimension ≡ true → count_by (is_of dimension.chart) (with_definitions first beat.charts beat.dimensions).dimensions ≤ 1024) beat.dimensions
 
+module _ (first : Registry) (beat : OpenBeat) (own_charts : AreApart same_chart first.charts) (own_dimensions : AreApart same_dimension first.dimensions)
+    (defined : IsDefinedIn (with_definitions first beat.charts beat.dimensions) beat) where
   abbrev r : Registry
-  r = registry_of (collected moment beat ∷ h)
+  r = with_definitions first beat.charts beat.dimensions
 
-  abbrev entry : NumberedBeat
-  entry = numbered_beat r moment beat
+  abbrev charts : List NumberedChart
+  charts = numbered_charts r beat
 
-  defined : IsDefinedIn r beat
-  defined = beat-defined h moment beat owned
+  abbrev dimensions : List NumberedDimension
+  dimensions = numbered_dimensions r beat
 
-  whole-charts : put_all same_chart first.charts (map chart_def entry.charts) ≡ r.charts
-  whole-charts = ap (put_all same_chart first.charts) (charts-back beat.charts r.charts 0) ∙ put-again same_chart chart-itself chart-alike first.charts beat.charts (apart-charts h)
+  whole-charts : put_all same_chart first.charts (map chart_def charts) ≡ r.charts
+  whole-charts = ap (put_all same_chart first.charts) (charts-back beat.charts r.charts 0) ∙ put-again same_chart chart-itself chart-alike first.charts beat.charts own_charts
 
-  whole-dimensions : put_all same_dimension first.dimensions (map (dimension_back r) entry.dimensions) ≡ r.dimensions
+  whole-dimensions : put_all same_dimension first.dimensions (map (dimension_back r) dimensions) ≡ r.dimensions
   whole-dimensions =
       ap (put_all same_dimension first.dimensions)
       (dimensions-back r beat.dimensions (recursion_from_All (λ (dimension : OpenDim). IsSome (chart_of r dimension.chart)) beat.dimensions defined.owners) r.dimensions 0)
-      ∙ put-again same_dimension dimension-itself dimension-alike first.dimensions beat.dimensions (apart-registry h)
+      ∙ put-again same_dimension dimension-itself dimension-alike first.dimensions beat.dimensions own_dimensions
 
   abbrev mid : Registry
   mid = record { charts = r.charts; dimensions = first.dimensions }
 
-  mid-is : mid ≡ with_charts first entry.charts
+  mid-is : mid ≡ with_charts first charts
   mid-is = λ i. record { charts = sym whole-charts i; dimensions = first.dimensions }
 
-  pub last-is : r ≡ with_numbered first entry
-  last-is =
+  pub taken-is : r ≡ with_dimensions (with_charts first charts) dimensions
+  taken-is =
       (λ i. record { charts = r.charts; dimensions = sym whole-dimensions i })
-      ∙ ap (λ (s : Registry). with_dimensions s entry.dimensions) mid-is
+      ∙ ap (λ (s : Registry). with_dimensions s dimensions) mid-is
 
-  module _ (may : MayFollow (registry_of h) beat) where
+  module _ (may : MayTake first beat) where
     -- the charts
     abbrev HasGrid : ChartDef → Type 0
     HasGrid def = 0 < def.update_every
@@ -229,9 +242,9 @@ module _ (h : List Beat) (moment : ℕ) (beat : OpenBeat) (owned : AreOwned (reg
       kept = chart-has r beat defined KeepsGrid may.kept m a at any;
     }
 
-    charts-go : all_taken takes_chart with_chart first entry.charts ≡ true
+    pub charts-go : all_taken takes_chart with_chart first charts ≡ true
     charts-go =
-        charts-taken r.charts may.charts first entry.charts whole-charts
+        charts-taken r.charts may.charts first charts whole-charts
         (subst (AreApart same_chart) (sym (charts-back beat.charts r.charts 0)) (apart-filter same_chart (λ (def : ChartDef). list_any (same_chart def) beat.charts) r.charts defined.own_charts))
         (all-places (MayChart r.charts may.charts first.charts) (λ (place : ℕ × ChartDef). if list_any (is_chart place.1.id) beat.charts then Some (record { number = place.0; def = place.1 }) else None) r.charts
         (λ m a c at e.
@@ -242,30 +255,62 @@ module _ (h : List Beat) (moment : ℕ) (beat : OpenBeat) (owned : AreOwned (reg
     abbrev IsLimited : OpenDim → Type 0
     IsLimited dimension = dimension_keeps_limits dimension.def ≡ true
 
-    dimension-may : (m : ℕ) (a : OpenDim) (c : NumberedDimension) → slice_get r.dimensions m ≡ Some a → IsLimited a → numbered_dimension r m a ≡ Some c
-        → MayDimension r.dimensions may.dimensions may.each mid c
-    dimension-may m a c at limits e =
+    abbrev HasRoom : OpenDim → Type 0
+    HasRoom dimension = is_new_dimension first dimension ≡ true → count_by (is_of dimension.chart) r.dimensions ≤ 1024
+
+    dimension-may : (m : ℕ) (a : OpenDim) (c : NumberedDimension) → slice_get r.dimensions m ≡ Some a → IsLimited a → HasRoom a → numbered_dimension r m a ≡ Some c
+        → MayDimension r.dimensions may.dimensions mid c
+    dimension-may m a c at limits room e =
         let parts = map-some (λ (number : ℕ). record { series = m; chart = number; def = a.def }) (chart_of r a.chart) c e in
         let id : chart_id r parts.0 ≡ a.chart = subst (λ (o : Option ℕ). IfSome o (λ n. chart_id r n ≡ a.chart)) parts.1.0 (chart_id-chart_of r a.chart) in
-        subst (MayDimension r.dimensions may.dimensions may.each mid) parts.1.1 (record {
+        subst (MayDimension r.dimensions may.dimensions mid) parts.1.1 (record {
           chart = chart_of-within r a.chart parts.0 parts.1.0;
           limits = limits;
           number = ap (λ (chart : List ℕ). position (is_dimension chart a.def.id) r.dimensions) id ∙ own-series r m a defined.own_dimensions at;
+          room = λ none.
+              let fresh : is_new_dimension first a ≡ true
+              = ap not (sym (list_any-position (is_dimension a.chart a.def.id) first.dimensions)
+              ∙ ap is_some (ap (λ (chart : List ℕ). position (is_dimension chart a.def.id) first.dimensions) (sym id) ∙ none)) in
+              subst (λ (chart : List ℕ). count_by (is_of chart) r.dimensions ≤ 1024) (sym id) (room fresh);
         })
 
-    dimensions-go : all_taken takes_dimension with_dimension (with_charts first entry.charts) entry.dimensions ≡ true
+    pub dimensions-go : all_taken takes_dimension with_dimension (with_charts first charts) dimensions ≡ true
     dimensions-go =
-        ap (λ (s : Registry). all_taken takes_dimension with_dimension s entry.dimensions) (sym mid-is)
-        ∙ dimensions-taken r.dimensions may.dimensions may.each mid entry.dimensions whole-dimensions
-        (all-places (MayDimension r.dimensions may.dimensions may.each mid)
+        ap (λ (s : Registry). all_taken takes_dimension with_dimension s dimensions) (sym mid-is)
+        ∙ dimensions-taken r.dimensions may.dimensions mid dimensions whole-dimensions
+        (all-places (MayDimension r.dimensions may.dimensions mid)
         (λ (place : ℕ × OpenDim). if list_any (is_dimension place.1.chart place.1.def.id) beat.dimensions then numbered_dimension r place.0 place.1 else None) r.dimensions
         (λ m a c at e.
         let any = list_any (is_dimension a.chart a.def.id) beat.dimensions in
         let made = numbered_dimension r m a in
-        dimension-may m a c at (dimension-has r beat defined IsLimited may.dimension_limits m a at (if-true any made c e)) (if-some any made c e)))
+        dimension-may m a c at (dimension-has r beat defined IsLimited may.dimension_limits m a at (if-true any made c e))
+        (dimension-has r beat defined HasRoom may.room m a at (if-true any made c e)) (if-some any made c e)))
 
-    pub beat-goes-on : IsRegular r beat → goes_on first entry ≡ true
+-- ---- a beat that may follow a history
+module _ (h : List Beat) (moment : ℕ) (beat : OpenBeat) (owned : AreOwned (registry_of h) beat) where
+  abbrev entry : NumberedBeat
+  entry = numbered_beat (registry_of (collected moment beat ∷ h)) moment beat
+
+  pub last-is : registry_of (collected moment beat ∷ h) ≡ with_numbered (registry_of h) entry
+  last-is = taken-is (registry_of h) beat (apart-charts h) (apart-registry h) (beat-defined h moment beat owned)
+
+  module _ (follows : MayFollow (registry_of h) beat) where
+    may : MayTake (registry_of h) beat
+    may = record {
+      grids = follows.grids;
+      kept = follows.kept;
+      chart_limits = follows.chart_limits;
+      dimension_limits = follows.dimension_limits;
+      charts = follows.charts;
+      dimensions = follows.dimensions;
+      room = λ k d within fresh. follows.each (get_or beat.dimensions k d).chart;
+    }
+
+    pub beat-goes-on : IsRegular (registry_of (collected moment beat ∷ h)) beat → goes_on (registry_of h) entry ≡ true
     beat-goes-on regular =
-        let rows : list_all (takes_row (with_numbered first entry)) entry.rows ≡ true
-        = ap (λ (s : Registry). list_all (takes_row s) entry.rows) (sym last-is) ∙ rows-go r beat defined regular in
-        λ i. charts-go i && (dimensions-go i && rows i)
+        let defined = beat-defined h moment beat owned in
+        let charts_go = charts-go (registry_of h) beat (apart-charts h) (apart-registry h) defined may in
+        let dimensions_go = dimensions-go (registry_of h) beat (apart-charts h) (apart-registry h) defined may in
+        let rows : list_all (takes_row (with_numbered (registry_of h) entry)) entry.rows ≡ true
+        = ap (λ (s : Registry). list_all (takes_row s) entry.rows) (sym last-is) ∙ rows-go (registry_of (collected moment beat ∷ h)) beat defined regular in
+        λ i. charts_go i && (dimensions_go i && rows i)

@@ -15,7 +15,6 @@ pub mod PutLemmas
 pub mod RowLemmas
 pub mod RowsFound
 pub mod Slots
-pub mod Steps
 pub mod TakingLemmas
 pub mod TestLemmas
 pub mod Within

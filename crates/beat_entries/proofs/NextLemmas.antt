@@ -4,11 +4,10 @@ use Rattle.std.specs.List.{find, list_any, count_by, AllByRecursion}
 use Rattle.std.specs.Option.{option_and_then}
 use Rattle.std.proofs.lemmas.Bool.{lt-leb}
 use Rattle.std.proofs.lemmas.List.{length_push}
-use Rattle.std.proofs.lemmas.Option.{same_Some}
+use Rattle.std.proofs.lemmas.Option.{none-some, same_Some}
 use Rattle.chart_registry.specs.Defining.{chart_id, nothing_open}
 use Rattle.chart_registry.proofs.Applying.{any-put, same_chart-alike}
-use Rattle.chart_registry.proofs.Places.{IsFirst, first-from_position, position-first, put-absent, list_any-position, find-position, count_by-push}
-use Rattle.chart_registry.proofs.ReasonLemmas.{count-put_all, of-alike}
+use Rattle.chart_registry.proofs.Places.{IsFirst, first-at, first-from_position, position-first, put-absent, list_any-position, find-position, count_by-push}
 use Rattle.chart_registry.proofs.RegistryLemmas.{chart_refusal-present, chart_refusal-absent, dimension_refusal-present, dimension_refusal-absent}
 use Rattle.chart_registry.proofs.RowsLemmas.{bytes_eq_same}
 use Rattle.history.specs.declared.numbered.NumberedChart.{NumberedChart}
@@ -19,21 +18,15 @@ use Rattle.history.specs.declared.fault.BlockFault.TheVariants as block
 use Rattle.history.specs.Limits.{chart_keeps_limits, dimension_keeps_limits}
 use Rattle.history.specs.Put.{put, put_all}
 use Rattle.history.specs.Refusal.{chart_refusal, dimension_refusal, dimensions_full}
-use Rattle.history.specs.Registry.{Registry, is_chart, is_of, same_chart, same_dimension, chart_of, series_of}
+use Rattle.history.specs.Registry.{Registry, is_chart, is_dimension, is_of, same_chart, same_dimension, chart_of, series_of}
 use Rattle.history.specs.Regular.{AreApart}
 use Rattle.chart_registry.proofs.Finding.{nat_eq_same, all-weaker}
-use Rattle.chart_registry.proofs.Growing.{first-put, length-put_all, same_dimension-alike}
-use Rattle.beat_entries.specs.Next.{all_taken, chart_def, is_number, with_chart, takes_chart, dimension_back, with_dimension, takes_dimension}
+use Rattle.chart_registry.proofs.Growing.{count-put_all, first-put, length-put_all, of-alike, same_dimension-alike}
+use Rattle.chart_registry.specs.Taking.{all_taken, chart_def, is_number, with_chart, takes_chart, dimension_back, with_dimension, takes_dimension}
 use Rattle.beat_entries.proofs.DefinedLemmas.{chart-itself, chart-alike, dimension-itself}
 use Rattle.beat_entries.proofs.PutLemmas.{turned, find-put}
 use Rattle.beat_entries.proofs.Slots.{all-both, none-all}
-use Rattle.beat_entries.proofs.Steps.{number-yes}
-
--- ---- what stands at the first place
-first-at : {A : Type 0} (p : A → Bool) (xs : List A) (n : ℕ) → IsFirst p xs n → (a : A) × ((slice_get xs n ≡ Some a) × (p a ≡ true))
-first-at p [] n first = absurd first
-first-at p (x ∷ xs) zero first = (x, (refl, first))
-first-at p (x ∷ xs) (suc n) first = first-at p xs n first.1
+use Rattle.chart_registry.proofs.Steps.{number-yes}
 
 -- ---- what is put keeps its place, and there are no fewer
 module _ {A : Type 0} (same : A → A → Bool) (p : A → Bool) (alike : (x y : A) → same x y ≡ true → p x ≡ p y) where
@@ -111,15 +104,16 @@ module _ (last : List ChartDef) (few : length last ≤ 4096) where
       (all-map chart_def (λ (def : ChartDef). same_chart chart.def def ≡ false) charts (none-all (same_chart chart.def) (map chart_def charts) apart.0))))
 
 -- ---- dimensions
-module _ (last : List OpenDim) (few : length last ≤ 65536) (each : (chart : List ℕ) → count_by (is_of chart) last ≤ 1024) where
+module _ (last : List OpenDim) (few : length last ≤ 65536) where
   pub record MayDimension (s : Registry) (dimension : NumberedDimension) : Type 0 where
     pub chart : dimension.chart < length s.charts
     pub limits : dimension_keeps_limits dimension.def ≡ true
     pub number : position (same_dimension (dimension_back s dimension)) last ≡ Some dimension.series
+    pub room : series_of s (chart_id s dimension.chart) dimension.def.id ≡ None → count_by (is_of (chart_id s dimension.chart)) last ≤ 1024
 
-  not-full : (s : Registry) (dimension : NumberedDimension) (rest : List OpenDim) → put_all same_dimension (put same_dimension s.dimensions (dimension_back s dimension)) rest ≡ last
+  not-full : (s : Registry) (dimension : NumberedDimension) (rest : List OpenDim) → MayDimension s dimension → put_all same_dimension (put same_dimension s.dimensions (dimension_back s dimension)) rest ≡ last
       → dimension_refusal s nothing_open (chart_id s dimension.chart) dimension.def ≡ None
-  not-full s dimension rest whole = by (series_of s (chart_id s dimension.chart) dimension.def.id) refl
+  not-full s dimension rest may whole = by (series_of s (chart_id s dimension.chart) dimension.def.id) refl
     where
       by : (found : Option ℕ) → series_of s (chart_id s dimension.chart) dimension.def.id ≡ found → dimension_refusal s nothing_open (chart_id s dimension.chart) dimension.def ≡ None
       by None e =
@@ -131,7 +125,7 @@ module _ (last : List OpenDim) (few : length last ≤ 65536) (each : (chart : Li
           let own : count_by (is_of (chart_id s dimension.chart)) (s.dimensions ++ made ∷ []) ≡ count_by (is_of (chart_id s dimension.chart)) s.dimensions + 1
           = count_by-push (is_of (chart_id s dimension.chart)) s.dimensions made true (bytes_eq_same (chart_id s dimension.chart) (chart_id s dimension.chart) refl) in
           let own_room : count_by (is_of (chart_id s dimension.chart)) s.dimensions + 0 < 1024
-          = omega (arith, each (chart_id s dimension.chart), ap (count_by (is_of (chart_id s dimension.chart))) whole, counts, ap (count_by (is_of (chart_id s dimension.chart))) pushed, own) in
+          = omega (arith, may.room e, ap (count_by (is_of (chart_id s dimension.chart))) whole, counts, ap (count_by (is_of (chart_id s dimension.chart))) pushed, own) in
           let full : false ≡ dimensions_full s nothing_open (chart_id s dimension.chart)
           = λ i. sym (lt-leb 1024 (count_by (is_of (chart_id s dimension.chart)) s.dimensions + 0) own_room) i || sym (lt-leb 65536 (length s.dimensions + 0) room) i in
           dimension_refusal-absent s (chart_id s dimension.chart) dimension.def false e full
@@ -143,9 +137,25 @@ module _ (last : List OpenDim) (few : length last ≤ 65536) (each : (chart : Li
   dimensions-taken s (dimension ∷ dimensions) whole may =
       let made = dimension_back s dimension in
       let takes : takes_dimension s dimension ≡ true
-      = λ i. lt-ltb dimension.chart (length s.charts) may.0.chart i && may.0.limits i && is_none (not-full s dimension (map (dimension_back s) dimensions) whole i)
+      = λ i. lt-ltb dimension.chart (length s.charts) may.0.chart i && may.0.limits i && is_none (not-full s dimension (map (dimension_back s) dimensions) may.0 whole i)
       && number-kept same_dimension (same_dimension made) (same_dimension-alike made.chart made.def.id) s.dimensions (map (dimension_back s) dimensions) last made dimension.series whole
       (dimension-itself made) may.0.number i in
       ap (λ (b : Bool). b && all_taken takes_dimension with_dimension (with_dimension s dimension) dimensions) takes
       ∙ dimensions-taken (with_dimension s dimension) dimensions whole
-      (all-weaker (MayDimension s) (MayDimension (with_dimension s dimension)) (λ x one. record { chart = one.chart; limits = one.limits; number = one.number }) dimensions may.1)
+      (all-weaker (MayDimension s) (MayDimension (with_dimension s dimension)) (λ x one. record {
+        chart = one.chart;
+        limits = one.limits;
+        number = one.number;
+        room = λ none. one.room (still-new x none);
+      }) dimensions may.1)
+    where
+      -- what is not there now was not there before
+      still-new : (x : NumberedDimension) → series_of (with_dimension s dimension) (chart_id s x.chart) x.def.id ≡ None → series_of s (chart_id s x.chart) x.def.id ≡ None
+      still-new x none = by (series_of s (chart_id s x.chart) x.def.id) refl
+        where
+          by : (found : Option ℕ) → series_of s (chart_id s x.chart) x.def.id ≡ found → found ≡ None
+          by None e = refl
+          by (Some n) e =
+              absurd (none-some n (sym none ∙ position-first (is_dimension (chart_id s x.chart) x.def.id) (put same_dimension s.dimensions (dimension_back s dimension)) n
+              (first-put same_dimension (is_dimension (chart_id s x.chart) x.def.id) (same_dimension-alike (chart_id s x.chart) x.def.id) s.dimensions (dimension_back s dimension) n
+              (first-from_position (is_dimension (chart_id s x.chart) x.def.id) s.dimensions n e))))

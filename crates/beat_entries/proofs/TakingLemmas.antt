@@ -1,30 +1,32 @@
 -- A beat by number before its definitions are there.
-use Rattle.std.proofs.Common.{◌≡◌, ℕ, ◌≤◌, Bool, true, false, not, ◌||◌, List, [], ◌∷◌, length, IsSome, is_some, All, refl, sym, ap, subst, ◌∙◌}
-use Rattle.std.specs.List.{list_any, AllByRecursion}
-use Rattle.std.proofs.lemmas.List.Elements.{recursion_from_All}
+use Rattle.std.proofs.Common.{◌≡◌, ℕ, ◌≤◌, true, false, not, nat_eq, length, Option, Some, is_some, sym, ap, subst, ◌∙◌}
+use Rattle.std.specs.List.{count_by, find}
+use Rattle.std.specs.Option.{option_map_or}
+use Rattle.std.proofs.lemmas.Bool.{eqb-true, not-false}
+use Rattle.std.proofs.lemmas.List.Elements.{All-from_recursion}
 use Rattle.entry_codec.specs.Entries.{is_collected_canonical, IsWithinLimits}
 use Rattle.history.specs.declared.beat.OpenBeat.{OpenBeat}
-use Rattle.history.specs.declared.beat.OpenRow.{OpenRow}
+use Rattle.history.specs.declared.beat.OpenDim.{OpenDim}
+use Rattle.history.specs.declared.chart.ChartDef.{ChartDef}
 use Rattle.history.specs.declared.numbered.NumberedBeat.{NumberedBeat}
-use Rattle.history.specs.Numbered.{numbered_beat, IsThere}
-use Rattle.history.specs.Refusal.{has_chart}
-use Rattle.history.specs.Registry.{Registry, chart_of, is_chart, same_chart, same_dimension, with_definitions}
+use Rattle.history.specs.Numbered.{numbered_beat, numbered_charts, numbered_dimensions, IsThere}
+use Rattle.history.specs.Refusal.{is_new_dimension}
+use Rattle.history.specs.Registry.{Registry, is_chart, is_of, same_chart, same_dimension}
 use Rattle.history.specs.Regular.{AreApart, IsRegular}
-use Rattle.chart_registry.proofs.Applying.{has_chart-any}
+use Rattle.chart_registry.specs.Taking.{all_taken, takes_chart, takes_dimension, with_chart, with_charts, with_dimension, with_dimensions}
 use Rattle.chart_registry.proofs.Finding.{all-weaker}
-use Rattle.chart_registry.proofs.Places.{list_any-position}
 use Rattle.beat_entries.specs.declared.coming.Coming.{Coming}
 use Rattle.beat_entries.specs.Coming.{CanNumber}
 use Rattle.beat_entries.specs.Defined.{IsDefinedIn}
-use Rattle.beat_entries.specs.Rules.{with_beat, IsOpenBeat}
+use Rattle.beat_entries.specs.Rules.{changes_grid_of, with_beat, IsOpenBeat}
 use Rattle.beat_entries.proofs.AfterLemmas.{defined-after, regular-after}
-use Rattle.beat_entries.proofs.ComingLemmas.{or-yes}
 use Rattle.beat_entries.proofs.DefiningLemmas.{rows-there}
 use Rattle.beat_entries.proofs.EntryLemmas.{entry-canonical}
-use Rattle.beat_entries.proofs.FollowLemmas.{rows-go}
+use Rattle.beat_entries.proofs.FollowLemmas.{charts-go, dimensions-go, rows-go, taken-is, MayTake}
 use Rattle.beat_entries.proofs.LimitLemmas.{within-limits}
+use Rattle.beat_entries.proofs.Slots.{none-all}
 use Rattle.beat_entries.proofs.TestLemmas.{IsTested}
-use Rattle.beat_entries.proofs.Within.{few-charts, few-dimensions}
+use Rattle.beat_entries.proofs.Within.{few-charts, few-dimensions, room-with}
 
 module _ (registry : Registry) (beat : OpenBeat) (coming : Coming) (registry_is : coming.registry.now ≡ registry) (beat_is : coming.beat.now ≡ beat) where
   abbrev after : Registry
@@ -71,20 +73,34 @@ module _ (registry : Registry) (beat : OpenBeat) (is_open : IsOpenBeat beat) (ch
         subst IsWithinLimits (sym is)
         (within-limits taken beat tested-defined moment is_open.chart_limits is_open.dimension_limits (few-charts registry beat tests.few_charts) (few-dimensions registry beat tests.few))
 
--- ---- a registry that has the beat's definitions
-pub with-nothing : (registry : Registry) (beat : OpenBeat) → beat.charts ≡ [] → beat.dimensions ≡ [] → with_beat registry beat ≡ registry
-with-nothing registry beat charts dimensions = λ i. with_definitions registry (charts i) (dimensions i)
+  -- ---- what the registry takes of it
+  abbrev KeepsGrid : ChartDef → Type 0
+  KeepsGrid def = (old : ChartDef) → find (is_chart def.id) registry.charts ≡ Some old → old.update_every ≡ def.update_every
 
-none-lack : {A : Type 0} (q : A → Bool) (xs : List A) → AllByRecursion (λ (x : A). q x ≡ true) xs → list_any (λ (x : A). not (q x)) xs ≡ false
-none-lack q [] all = refl
-none-lack q (x ∷ xs) all = λ i. not (all.0 i) || none-lack q xs all.1 i
+  grid-kept : (def : ChartDef) → changes_grid_of registry def ≡ false → KeepsGrid def
+  grid-kept def same old found =
+      eqb-true old.update_every def.update_every
+      (not-false (nat_eq old.update_every def.update_every) (ap (λ (found : Option ChartDef). option_map_or (λ (old : ChartDef). not (nat_eq old.update_every def.update_every)) found false) (sym found) ∙ same))
 
-pub none-lacks_chart : (registry : Registry) (beat : OpenBeat) (rows : List OpenRow) → All (λ (row : OpenRow). IsSome (chart_of registry row.chart)) rows
-    → list_any (λ (row : OpenRow). not (has_chart registry beat row.chart)) rows ≡ false
-none-lacks_chart registry beat rows there =
-    none-lack (λ (row : OpenRow). has_chart registry beat row.chart) rows
-    (all-weaker (λ (row : OpenRow). IsSome (chart_of registry row.chart)) (λ (row : OpenRow). has_chart registry beat row.chart ≡ true)
-    (λ row some. has_chart-any registry beat row.chart
-    ∙ ap (λ (b : Bool). list_any (is_chart row.chart) beat.charts || b) (sym (list_any-position (is_chart row.chart) registry.charts) ∙ some)
-    ∙ or-yes (list_any (is_chart row.chart) beat.charts))
-    rows (recursion_from_All (λ (row : OpenRow). IsSome (chart_of registry row.chart)) rows there))
+  abbrev HasRoom : OpenDim → Type 0
+  HasRoom dimension = is_new_dimension registry dimension ≡ true → count_by (is_of dimension.chart) taken.dimensions ≤ 1024
+
+  may : MayTake registry beat
+  may = record {
+    grids = is_open.grids;
+    kept = All-from_recursion KeepsGrid beat.charts (all-weaker (λ (def : ChartDef). changes_grid_of registry def ≡ false) KeepsGrid grid-kept beat.charts (none-all (changes_grid_of registry) beat.charts tests.grids));
+    chart_limits = is_open.chart_limits;
+    dimension_limits = is_open.dimension_limits;
+    charts = few-charts registry beat tests.few_charts;
+    dimensions = few-dimensions registry beat tests.few;
+    room = All-from_recursion HasRoom beat.dimensions (room-with registry beat tests.few);
+  }
+
+  pub tested-charts : all_taken takes_chart with_chart registry (numbered_charts taken beat) ≡ true
+  tested-charts = charts-go registry beat charts dimensions tested-defined may
+
+  pub tested-dimensions : all_taken takes_dimension with_dimension (with_charts registry (numbered_charts taken beat)) (numbered_dimensions taken beat) ≡ true
+  tested-dimensions = dimensions-go registry beat charts dimensions tested-defined may
+
+  pub tested-taken : with_dimensions (with_charts registry (numbered_charts taken beat)) (numbered_dimensions taken beat) ≡ taken
+  tested-taken = sym (taken-is registry beat charts dimensions tested-defined)

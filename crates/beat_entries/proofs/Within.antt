@@ -1,6 +1,6 @@
 -- The limits of a registry that takes the definitions of a beat.
 use Rattle.std.proofs.Common.{◌≡◌, ℕ, ◌+◌, ◌≤◌, ◌⊎◌, inl, inr, Bool, true, false, ◌&&◌, ◌||◌, nat_lt, List, [], ◌∷◌, length, None, refl, sym, ap, ◌∙◌, arith}
-use Rattle.std.specs.List.{list_any, count_by}
+use Rattle.std.specs.List.{list_any, count_by, AllByRecursion}
 use Rattle.std.proofs.lemmas.Bool.{and_parts, ltb-false}
 use Rattle.history.specs.declared.beat.OpenBeat.{OpenBeat}
 use Rattle.history.specs.declared.beat.OpenDim.{OpenDim}
@@ -11,14 +11,11 @@ use Rattle.chart_registry.proofs.Applying.{same_chart-alike}
 use Rattle.chart_registry.proofs.RegistryLemmas.{or_false}
 use Rattle.chart_registry.proofs.RowsLemmas.{same_text}
 use Rattle.chart_registry.specs.Accepted.{HasFew, IsWithin}
-use Rattle.chart_registry.proofs.Finding.{one_if}
+use Rattle.chart_registry.proofs.Finding.{all-weaker, one_if}
 use Rattle.chart_registry.proofs.Growing.{same_dimension-alike}
 use Rattle.chart_registry.proofs.FewLemmas.{count-cons, few-closed, HaveFew}
 use Rattle.beat_entries.proofs.Slots.{none-all}
-use Rattle.chart_registry.proofs.RoomLemmas.{grids-kept, length-put_all, only-memory}
-use Rattle.chart_registry.specs.declared.fault.RegistryFault.{RegistryFault}
-use Rattle.chart_registry.specs.declared.fault.RegistryFault.TheVariants.{Memory}
-use Rattle.chart_registry.specs.Defining.{IsReasonOf}
+use Rattle.chart_registry.proofs.RoomLemmas.{length-put_all}
 use Rattle.history.specs.Regular.{AreApart}
 use Rattle.chart_registry.proofs.AcceptedLemmas.{passed}
 use Rattle.beat_entries.specs.Rules.{beat_refusal, changes_grid, changes_grid_of, dimensions_with, fills_chart, is_too_long, lacks_chart, lacks_dimension, too_many_charts, too_many_dimensions}
@@ -68,11 +65,18 @@ module _ (registry : Registry) (beat : OpenBeat) where
       let each = or_false (list_any (fills_chart registry beat) beat.dimensions) (list_any is_too_long beat.rows) parts.1 in
       omega (arith, few-closed registry beat.dimensions chart, few-with few each.0 chart)
 
-  -- a beat that passes its tests is refused for memory alone
-  pub tested-memory : AreApart same_chart registry.charts → AreApart same_chart beat.charts → HasFew registry → changes_grid registry beat ≡ false → too_many_charts registry beat ≡ false → too_many_dimensions registry beat ≡ false
-      → (fault : RegistryFault) → IsReasonOf registry beat fault → fault ≡ Memory
-  tested-memory apart own few grids charts dimensions =
-      only-memory registry beat (grids-kept registry beat apart own (none-all (changes_grid_of registry) beat.charts grids)) (few-charts registry beat charts) (few-dimensions registry beat dimensions) (few-after few dimensions)
+  -- there is room for what is new
+  pub room-with : too_many_dimensions registry beat ≡ false
+      → AllByRecursion (λ (dimension : OpenDim). is_new_dimension registry dimension ≡ true → count_by (is_of dimension.chart) (with_definitions registry beat.charts beat.dimensions).dimensions ≤ 1024) beat.dimensions
+  room-with dimensions =
+      let parts = or_false (nat_lt 65536 (length registry.dimensions + count_by (is_new_dimension registry) beat.dimensions)) _ dimensions in
+      let each = or_false (list_any (fills_chart registry beat) beat.dimensions) (list_any is_too_long beat.rows) parts.1 in
+      all-weaker (λ (dimension : OpenDim). fills_chart registry beat dimension ≡ false)
+      (λ (dimension : OpenDim). is_new_dimension registry dimension ≡ true → count_by (is_of dimension.chart) (with_definitions registry beat.charts beat.dimensions).dimensions ≤ 1024)
+      (λ dimension fits fresh.
+      let room : nat_lt 1024 (dimensions_with registry beat dimension.chart) ≡ false = ap (λ (b : Bool). b && nat_lt 1024 (dimensions_with registry beat dimension.chart)) (sym fresh) ∙ fits in
+      omega (arith, few-closed registry beat.dimensions dimension.chart, ltb-false 1024 (dimensions_with registry beat dimension.chart) room))
+      beat.dimensions (none-all (fills_chart registry beat) beat.dimensions each.0)
 
   -- the limits hold with a beat that passes its tests
   pub within-after : IsWithin registry → too_many_charts registry beat ≡ false → too_many_dimensions registry beat ≡ false → IsWithin (with_definitions registry beat.charts beat.dimensions)

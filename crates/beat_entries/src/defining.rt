@@ -1,40 +1,36 @@
 //! The definitions and the rows of a numbered beat, as a registry takes them.
-ghost use Rattle.std.specs.Prelude.{◌≡◌, true, false, IfErr, OnOk};
+ghost use Rattle.std.specs.Prelude.{◌≡◌, true, false, map, IfErr, OnOk};
 ghost use Rattle.std.specs.List.{list_all};
-ghost use Rattle.beat_entries.specs.Next.{all_taken, with_chart, with_charts, takes_chart, with_dimension, with_dimensions, takes_dimension, owner_of, is_of_chart, takes_row};
+ghost use Rattle.chart_registry.specs.Taking.{all_taken, with_chart, with_charts, takes_chart, with_dimension, with_dimensions, takes_dimension};
+ghost use Rattle.beat_entries.specs.Copied.{full_chart, full_dimension};
+ghost use Rattle.beat_entries.specs.Next.{owner_of, is_of_chart, takes_row};
 ghost use Rattle.beat_entries.specs.declared.refusal.EntryRefusal.TheVariants.{NotNext};
 
 use crate::refusal::EntryRefusal;
-use chart_registry::{Registry, RegistryFault};
+use crate::usual;
+use chart_registry::Registry;
+use entry_codec::{CopiedChart, CopiedDimension};
 use history::{MOST_DIMENSIONS_OF_CHART, NumberedChart, NumberedDimension, Row, Value};
+use std::alloc::Global;
 
 /// The most values of one row.
 const MOST_VALUES: usize = MOST_DIMENSIONS_OF_CHART as usize;
 
-/// Defines a chart by its number. After an `Err` it may be defined.
+/// Takes a chart, if it may be taken. After an `Err` all is as before.
 fn take_chart(registry: &mut Registry, chart: &NumberedChart) -> Result<(), EntryRefusal>
     ensures ok { OnOk result (registry.new ≡ with_chart registry.old chart.now) }
     ensures taken { OnOk result (takes_chart registry.old chart.now ≡ true) }
     ensures refused { IfErr result (λ refusal. refusal ≡ NotNext
         → takes_chart registry.old chart.now ≡ false) }
 {
-    if chart.def.update_every == 0 || !chart.def.keeps_limits() {
+    if !registry.takes_chart(chart) {
         return Err(EntryRefusal::NotNext);
     }
-    match registry.define_chart(&chart.def) {
-        Ok(number) => {
-            if number == chart.number {
-                Ok(())
-            } else {
-                Err(EntryRefusal::NotNext)
-            }
-        }
-        Err(RegistryFault::Memory) => Err(EntryRefusal::Memory),
-        Err(_) => Err(EntryRefusal::NotNext),
-    }
+    registry.take_chart(chart)?;
+    Ok(())
 }
 
-/// Defines charts by their numbers. After an `Err` a part of them may be defined.
+/// Takes charts, up to the first that is refused or for which there is no memory.
 pub(crate) fn define_charts(
     registry: &mut Registry,
     charts: &[NumberedChart],
@@ -51,7 +47,26 @@ pub(crate) fn define_charts(
     Ok(())
 }
 
-/// Defines a dimension by its number. After an `Err` it may be defined.
+/// The same of charts of which a copy tells.
+pub(crate) fn define_copied_charts(
+    alloc: Global,
+    registry: &mut Registry,
+    charts: &[CopiedChart],
+) -> Result<(), EntryRefusal>
+    ensures ok { OnOk result (registry.new ≡ with_charts registry.old (map full_chart charts.now)) }
+    ensures taken { OnOk result
+        (all_taken takes_chart with_chart registry.old (map full_chart charts.now) ≡ true) }
+    ensures refused { IfErr result (λ refusal. refusal ≡ NotNext
+        → all_taken takes_chart with_chart registry.old (map full_chart charts.now) ≡ false) }
+{
+    for chart in charts {
+        let full = usual::full_chart(alloc, chart)?;
+        take_chart(registry, &full)?;
+    }
+    Ok(())
+}
+
+/// Takes a dimension, if it may be taken. After an `Err` all is as before.
 fn take_dimension(
     registry: &mut Registry,
     dimension: &NumberedDimension,
@@ -61,23 +76,14 @@ fn take_dimension(
     ensures refused { IfErr result (λ refusal. refusal ≡ NotNext
         → takes_dimension registry.old dimension.now ≡ false) }
 {
-    if dimension.chart >= registry.charts() || !dimension.def.keeps_limits() {
+    if !registry.takes_dimension(dimension) {
         return Err(EntryRefusal::NotNext);
     }
-    match registry.define_dimension(dimension.chart, &dimension.def) {
-        Ok(series) => {
-            if series == dimension.series {
-                Ok(())
-            } else {
-                Err(EntryRefusal::NotNext)
-            }
-        }
-        Err(RegistryFault::Memory) => Err(EntryRefusal::Memory),
-        Err(_) => Err(EntryRefusal::NotNext),
-    }
+    registry.take_dimension(dimension)?;
+    Ok(())
 }
 
-/// Defines dimensions by their numbers. After an `Err` a part of them may be defined.
+/// Takes dimensions, up to the first that is refused or for which there is no memory.
 pub(crate) fn define_dimensions(
     registry: &mut Registry,
     dimensions: &[NumberedDimension],
@@ -90,6 +96,26 @@ pub(crate) fn define_dimensions(
 {
     for dimension in dimensions {
         take_dimension(registry, dimension)?;
+    }
+    Ok(())
+}
+
+/// The same of dimensions of which a copy tells.
+pub(crate) fn define_copied_dimensions(
+    registry: &mut Registry,
+    dimensions: &[CopiedDimension],
+) -> Result<(), EntryRefusal>
+    ensures ok { OnOk result
+        (registry.new ≡ with_dimensions registry.old (map full_dimension dimensions.now)) }
+    ensures taken { OnOk result (all_taken takes_dimension with_dimension registry.old
+        (map full_dimension dimensions.now) ≡ true) }
+    ensures refused { IfErr result (λ refusal. refusal ≡ NotNext
+        → all_taken takes_dimension with_dimension registry.old
+        (map full_dimension dimensions.now) ≡ false) }
+{
+    for dimension in dimensions {
+        let full = usual::full_dimension(dimension)?;
+        take_dimension(registry, &full)?;
     }
     Ok(())
 }

@@ -1,4 +1,4 @@
-ghost use Rattle.std.specs.Prelude.{◌≡◌, ◌++◌, [], IfOk, OnOk, filter_map};
+ghost use Rattle.std.specs.Prelude.{◌≡◌, ◌++◌, [], true, is_some, IfOk, OnOk, filter_map};
 ghost use Rattle.std.specs.List.{cons_option};
 ghost use Rattle.std.specs.List.Sorted.{IsPermutation, IsNonDecreasingBy};
 ghost use Rattle.beat_entries.specs.Defined.{IsDefinedIn};
@@ -13,6 +13,14 @@ use history::{
     ChartDef, ChartList, DimensionList, NumberedChart, NumberedDimension, OpenBeat, OpenDim,
 };
 use std::alloc::{AllocError, Global};
+
+/// What a beat defines, by the numbers that it has once a registry takes it: each list in the order of its numbers,
+/// each number once.
+#[derive(Debug, Drop)]
+pub struct NumberedDefinitions {
+    pub charts: ChartList,
+    pub dimensions: DimensionList,
+}
 
 /// A chart with its number.
 fn number_chart(coming: &Coming, def: &ChartDef) -> Result<Option<NumberedChart>, AllocError>
@@ -71,7 +79,7 @@ fn sort_charts(mut charts: Vec<NumberedChart>) -> Result<ChartList, AllocError>
 }
 
 /// The charts that a beat defines, in the order of their numbers.
-pub(crate) fn charts(
+fn charts(
     alloc: Global,
     coming: &Coming,
     beat: &OpenBeat,
@@ -160,7 +168,7 @@ fn sort_dimensions(mut dimensions: Vec<NumberedDimension>) -> Result<DimensionLi
 }
 
 /// The dimensions that a beat defines, in the order of their numbers.
-pub(crate) fn dimensions(
+fn dimensions(
     alloc: Global,
     coming: &Coming,
     beat: &OpenBeat,
@@ -172,4 +180,28 @@ pub(crate) fn dimensions(
         ≡ numbered_dimensions (with_beat coming.now.registry.now coming.now.beat.now) beat.now) }
 {
     sort_dimensions(gather_dimensions(alloc, coming, beat.dimensions.as_slice())?)
+}
+
+/// What a beat defines by number, where what was to be numbered was found.
+pub(crate) fn definitions(
+    alloc: Global,
+    coming: &Coming,
+    beat: &OpenBeat,
+) -> Result<NumberedDefinitions, AllocError>
+    requires can { is_some coming.now.fresh ≡ true → CanNumber coming.now }
+    requires defined { IsDefinedIn
+        (with_beat coming.now.registry.now coming.now.beat.now) beat.now }
+    ensures charts { IfOk result (λ made. made.charts
+        ≡ numbered_charts (with_beat coming.now.registry.now coming.now.beat.now) beat.now) }
+    ensures dimensions { IfOk result (λ made. made.dimensions
+        ≡ numbered_dimensions (with_beat coming.now.registry.now coming.now.beat.now) beat.now) }
+    ensures found { OnOk result (is_some coming.now.fresh ≡ true) }
+{
+    if !coming.has_memory() {
+        return Err(AllocError);
+    }
+    Ok(NumberedDefinitions {
+        charts: charts(alloc, coming, beat)?,
+        dimensions: dimensions(alloc, coming, beat)?,
+    })
 }

@@ -1,6 +1,6 @@
 //! The series of a dimension that is probably the one behind that of the dimension before it.
 
-ghost use Rattle.std.specs.Prelude.{◌≡◌, ◌<◌, true, length, Some};
+ghost use Rattle.std.specs.Prelude.{◌≡◌, ◌<◌, length};
 ghost use Rattle.chart_registry.specs.Defining.{chart_id};
 ghost use Rattle.history.specs.Registry.{series_of};
 
@@ -11,21 +11,9 @@ pub(crate) fn series_near(registry: &Registry, chart: u32, near: u32, id: &str) 
     requires { chart < length registry.now.charts }
     ensures { result ≡ series_of registry.now (chart_id registry.now chart) id.now }
 {
-    if is_series_of(registry, near, chart, id) {
+    if registry.is_series_of(near, chart, id) {
         Some(near)
     } else {
         registry.series_of(chart, id)
     }
-}
-
-/// Whether the dimension with this id of the chart with this number has this series.
-fn is_series_of(registry: &Registry, series: u32, chart: u32, id: &str) -> bool
-    ensures { result ≡ true
-        → series_of registry.now (chart_id registry.now chart) id.now ≡ Some series }
-{
-    if series >= registry.dimensions() {
-        return false;
-    }
-    let owner = registry.owner(series);
-    owner == chart && id == registry.dimension(series).id.as_str()
 }

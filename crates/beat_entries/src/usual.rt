@@ -1,14 +1,13 @@
 //! Definitions of which no more is told than a copy tells.
-ghost use Rattle.std.specs.Prelude.{◌≡◌, map, IfOk};
+ghost use Rattle.std.specs.Prelude.{◌≡◌, IfOk};
 ghost use Rattle.std.specs.List.{after_first};
 ghost use Rattle.history.specs.Limits.{is_dot};
 ghost use Rattle.beat_entries.specs.Copied.{full_chart, full_dimension, usual_chart, usual_dimension};
 
 use entry_codec::{CopiedChart, CopiedDimension};
-use fixed_num::{ListOf, Text};
+use fixed_num::Text;
 use history::{
-    Algorithm, ChartDef, ChartKind, ChartList, DimDef, DimensionList, NumberedChart,
-    NumberedDimension, USUAL_PRIORITY,
+    Algorithm, ChartDef, ChartKind, DimDef, NumberedChart, NumberedDimension, USUAL_PRIORITY,
 };
 use std::alloc::{AllocError, Global};
 
@@ -48,24 +47,13 @@ pub fn usual_chart(
 }
 
 /// The whole definition of a chart.
-fn full_chart(alloc: Global, chart: &CopiedChart) -> Result<NumberedChart, AllocError>
+pub(crate) fn full_chart(alloc: Global, chart: &CopiedChart) -> Result<NumberedChart, AllocError>
     ensures { IfOk result (λ made. made ≡ full_chart chart.now) }
 {
     Ok(NumberedChart {
         number: chart.number,
         def: usual_chart(alloc, &chart.id, &chart.context, chart.update_every)?,
     })
-}
-
-/// The whole definitions of charts.
-pub(crate) fn full_charts(alloc: Global, charts: &[CopiedChart]) -> Result<ChartList, AllocError>
-    ensures { IfOk result (λ made. made ≡ map full_chart charts.now) }
-{
-    let mut made = ListOf::new(alloc);
-    for chart in charts {
-        made.push(full_chart(alloc, chart)?)?;
-    }
-    Ok(made)
 }
 
 /// The definition of a dimension of which a copy tells this: its name is its id, and what else there is is as
@@ -85,7 +73,7 @@ pub fn usual_dimension(id: &Text, hidden: bool) -> Result<DimDef, AllocError>
 }
 
 /// The whole definition of a dimension.
-fn full_dimension(dimension: &CopiedDimension) -> Result<NumberedDimension, AllocError>
+pub(crate) fn full_dimension(dimension: &CopiedDimension) -> Result<NumberedDimension, AllocError>
     ensures { IfOk result (λ made. made ≡ full_dimension dimension.now) }
 {
     Ok(NumberedDimension {
@@ -93,18 +81,4 @@ fn full_dimension(dimension: &CopiedDimension) -> Result<NumberedDimension, Allo
         chart: dimension.chart,
         def: usual_dimension(&dimension.id, dimension.hidden)?,
     })
-}
-
-/// The whole definitions of dimensions.
-pub(crate) fn full_dimensions(
-    alloc: Global,
-    dimensions: &[CopiedDimension],
-) -> Result<DimensionList, AllocError>
-    ensures { IfOk result (λ made. made ≡ map full_dimension dimensions.now) }
-{
-    let mut made = ListOf::new(alloc);
-    for dimension in dimensions {
-        made.push(full_dimension(dimension)?)?;
-    }
-    Ok(made)
 }

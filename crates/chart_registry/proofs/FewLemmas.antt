@@ -11,13 +11,12 @@ use Rattle.history.specs.Put.{put, put_all}
 use Rattle.history.specs.Refusal.{is_new_dimension}
 use Rattle.history.specs.Registry.{Registry, is_of, is_dimension, same_dimension}
 use Rattle.chart_registry.proofs.Applying.{any-put}
-use Rattle.chart_registry.proofs.ReasonLemmas.{of-alike}
 use Rattle.chart_registry.proofs.RegistryLemmas.{or_false}
 use Rattle.chart_registry.proofs.RowsLemmas.{same_text}
 use Rattle.history.specs.Regular.{AreApart}
 use Rattle.chart_registry.proofs.ApartLemmas.{same-parts}
 use Rattle.chart_registry.proofs.Finding.{one_if}
-use Rattle.chart_registry.proofs.Growing.{same_dimension-alike}
+use Rattle.chart_registry.proofs.Growing.{of-alike, same_dimension-alike}
 
 -- ---- lists of which one test passes at most where another does
 one_if-wider : (a b : Bool) → (a ≡ true → b ≡ true) → one_if a ≤ one_if b

@@ -1,11 +1,14 @@
 -- What stays found in a list that takes more things, and in a registry that takes more definitions.
-use Rattle.std.proofs.Common.{◌≡◌, ℕ, zero, suc, ◌≤◌, Bool, true, false, ◌&&◌, List, [], ◌∷◌, length, true≢false, refl, sym, ◌∙◌, arith, if◌then◌else◌}
+use Rattle.std.proofs.Common.{◌≡◌, ℕ, zero, suc, ◌≤◌, Bool, true, false, cond, ◌&&◌, List, [], ◌∷◌, length, true≢false, refl, sym, ap, ◌∙◌, arith, if◌then◌else◌}
+use Rattle.std.specs.List.{count_by}
 use Rattle.std.specs.Str.{bytes_eq}
 use Rattle.std.proofs.lemmas.Bool.{and_parts}
+use Rattle.std.proofs.lemmas.List.Sums.{sum_by-cons}
 use Rattle.history.specs.declared.beat.OpenDim.{OpenDim}
 use Rattle.history.specs.declared.chart.ChartDef.{ChartDef}
 use Rattle.history.specs.Put.{put, put_all}
-use Rattle.history.specs.Registry.{Registry, is_dimension, same_dimension, with_definitions}
+use Rattle.history.specs.Registry.{Registry, is_dimension, is_of, same_dimension, with_definitions}
+use Rattle.chart_registry.proofs.Finding.{one_if}
 use Rattle.chart_registry.proofs.Places.{IsFirst, IsNowhere}
 use Rattle.chart_registry.proofs.RowsLemmas.{same_text}
 
@@ -50,6 +53,25 @@ module _ {A : Type 0} (same : A → A → Bool) (p : A → Bool) (alike : (x y :
   pub length-put_all : (xs ys : List A) → length xs ≤ length (put_all same xs ys)
   length-put_all xs [] = omega arith
   length-put_all xs (y ∷ ys) = omega (arith, length-put xs y, length-put_all (put same xs y) ys)
+
+-- ---- what passes a test
+module _ {A : Type 0} (same : A → A → Bool) (p : A → Bool) (alike : (x y : A) → same x y ≡ true → p x ≡ p y) where
+  pub count-put : (ys : List A) (x : A) → count_by p ys ≤ count_by p (put same ys x)
+  count-put [] x = omega arith
+  count-put (y ∷ ys) x = by (same x y) refl (count-put ys x)
+    where
+      by : (b : Bool) → same x y ≡ b → count_by p ys ≤ count_by p (put same ys x) → count_by p (y ∷ ys) ≤ count_by p (if b then x ∷ ys else y ∷ put same ys x)
+      by true e le =
+          let alike_one : one_if (p x) ≡ one_if (p y) = ap one_if (alike x y e) in
+          omega (arith, alike_one, sum_by-cons (λ (z : A). cond (p z) 1 0) x ys, sum_by-cons (λ (z : A). cond (p z) 1 0) y ys)
+      by false e le = omega (arith, le, sum_by-cons (λ (z : A). cond (p z) 1 0) y (put same ys x), sum_by-cons (λ (z : A). cond (p z) 1 0) y ys)
+
+  pub count-put_all : (ys xs : List A) → count_by p ys ≤ count_by p (put_all same ys xs)
+  count-put_all ys [] = omega arith
+  count-put_all ys (x ∷ xs) = omega (arith, count-put ys x, count-put_all (put same ys x) xs)
+
+pub of-alike : (chart : List ℕ) (x y : OpenDim) → same_dimension x y ≡ true → is_of chart x ≡ is_of chart y
+of-alike chart x y same = ap (bytes_eq chart) (same_text x.chart y.chart (and_parts (bytes_eq x.chart y.chart) (bytes_eq x.def.id y.def.id) same).0)
 
 pub same_dimension-alike : (chart id : List ℕ) (x y : OpenDim) → same_dimension x y ≡ true → is_dimension chart id x ≡ is_dimension chart id y
 same_dimension-alike chart id x y same =

@@ -8,14 +8,14 @@ pub mod DefiningLemmas
 pub mod DimensionsLemmas
 pub mod FewLemmas
 pub mod Finding
-pub mod FirstLemmas
 pub mod Growing
 pub mod LeavingLemmas
 pub mod Lists
 pub mod OpenLemmas
 pub mod Places
-pub mod ReasonLemmas
 pub mod RegistryLemmas
 pub mod RoomLemmas
 pub mod RowsLemmas
+pub mod Steps
 pub mod TablesLemmas
+pub mod TakenLemmas

@@ -120,6 +120,12 @@ module _ {A : Type 0} (p : A → Bool) where
   passes-first (x ∷ xs) zero d h = h
   passes-first (x ∷ xs) (suc n) d h = passes-first xs n d h.1
 
+  -- what stands at the first place
+  pub first-at : (xs : List A) (n : ℕ) → IsFirst p xs n → (a : A) × ((slice_get xs n ≡ Some a) × (p a ≡ true))
+  first-at [] n first = absurd first
+  first-at (x ∷ xs) zero first = (x, (refl, first))
+  first-at (x ∷ xs) (suc n) first = first-at xs n first.1
+
   -- a list that grows at its end
   first-append : (xs ys : List A) (n : ℕ) → IsFirst p xs n → IsFirst p (xs ++ ys) n
   first-append [] ys n h = absurd h

@@ -17,10 +17,7 @@ use Rattle.history.specs.Refusal.{chart_refusal, dimension_refusal, dimensions_f
 use Rattle.indexmap.specs.IndexMap.{values}
 use Rattle.chart_registry.specs.declared.charts.Chart.{Chart}
 use Rattle.chart_registry.specs.declared.dimensions.Dimension.{Dimension}
-use Rattle.chart_registry.specs.declared.registry.Registry.TheInside.{Inside}
-use Rattle.chart_registry.specs.Accepted.{IsWithin}
 use Rattle.chart_registry.specs.Defining.{nothing_open, chart_id}
-use Rattle.chart_registry.specs.Kept.{definitions, IsRegistry}
 use Rattle.chart_registry.specs.Rows.{Row, Mark, row_of, mark_of, row_at, ids, belongs, is_mark, same_mark, series_in, marks, open_dims, redefined, AreKept}
 use Rattle.chart_registry.proofs.Places.{IsFirst, count_by-all_false, count_by-map, first-from_position, passes-first, position-map, position-within, find-position, list_any-position, position-all_false, put-present, get_or-map_any, option_map_or-slice_get}
 use Rattle.chart_registry.proofs.ChartsLemmas.{ids-defs}
@@ -174,35 +171,6 @@ module _ (charts : List Chart) (dimensions : List Dimension) (registry : Definit
         (known.tables n no_row within).counts ∙ count_by-map (belongs chart) mark_of dimensions
         ∙ sym (count_by-map (is_of chart) (λ (dimension : Dimension). dimension.definition) dimensions)
         ∙ ap (λ (text : List ℕ). count_by (is_of text) (open_dims dimensions)) (sym (chart_id-row n)) ∙ ap (λ (seen : Definitions). count_by (is_of (chart_id registry n)) seen.dimensions) view
-
-    -- no chart has more dimensions than its table has room for
-    pub few-dimensions : All (λ (row : Row). length row.series ≤ 1024) (map row_of charts) → (chart : List ℕ) → count_by (is_of chart) registry.dimensions ≤ 1024
-    few-dimensions sizes chart = by (chart_of registry chart) refl
-      where
-        by : (found : Option ℕ) → chart_of registry chart ≡ found → count_by (is_of chart) registry.dimensions ≤ 1024
-        by None none =
-            let is : count_by (is_of chart) registry.dimensions ≡ 0
-            = ap (λ (seen : Definitions). count_by (is_of chart) seen.dimensions) (sym view)
-            ∙ count_by-map (is_of chart) (λ (dimension : Dimension). dimension.definition) dimensions
-            ∙ sym (count_by-map (belongs chart) mark_of dimensions)
-            ∙ count_by-all_false (belongs chart) (marks dimensions) (apart (map row_of charts) (marks dimensions) known chart (sym (chart_of-ids chart) ∙ none)) in
-            omega (arith, is)
-        by (Some n) found =
-            let id : chart_id registry n ≡ chart = subst (λ (found : Option ℕ). IfSome found (λ n. chart_id registry n ≡ chart)) found (chart_id-chart_of registry chart) in
-            let within : n < length (map row_of charts)
-            = omega (arith, chart_of-within registry chart n found, ap (λ (seen : Definitions). length seen.charts) view, length-map charts (λ (chart : Chart). chart.def), length-map charts row_of) in
-            let is : length (row_at (map row_of charts) n).series ≡ count_by (is_of chart) registry.dimensions
-            = counts-dimensions n within ∙ ap (λ (text : List ℕ). count_by (is_of text) registry.dimensions) id in
-            let size : length (row_at (map row_of charts) n).series ≤ 1024 = sizes n no_row within in
-            omega (arith, is, size)
-
--- what is kept has no more charts and dimensions than there may be
-pub kept-within : (kept : Inside) (registry : Definitions) → definitions kept ≡ registry → IsRegistry kept → IsWithin registry
-kept-within kept registry view is = record {
-  charts = subst (λ (seen : Definitions). length seen.charts ≤ 4096) view is.charts;
-  dimensions = subst (λ (seen : Definitions). length seen.dimensions ≤ 65536) view is.dimensions;
-  each = few-dimensions (values kept.charts) kept.dimensions.items registry view is.known is.sizes;
-}
 
 -- where there is room for one more dimension, its chart has less than the most
 pub dimensions-few : (registry : Definitions) (chart : List ℕ) → dimensions_full registry nothing_open chart ≡ false → (count_by (is_of chart) registry.dimensions < 1024) × (length registry.dimensions < 65536)

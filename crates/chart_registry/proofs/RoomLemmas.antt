@@ -1,5 +1,5 @@
 -- What the accepted lines of a text leave of definitions: the registry of the history so far has room for those
--- of the open beat. So where it takes them only memory can be short.
+-- of the open beat.
 use Rattle.std.proofs.Common.{◌≡◌, ℕ, ◌+◌, ◌≤◌, Bool, true, false, not, ◌&&◌, ◌||◌, nat_eq, nat_le, cond, inl, inr, List, [], ◌∷◌, length, Option, Some, None, is_some, refl, sym, ap, ◌∙◌, arith, true≢false, if◌then◌else◌}
 use Rattle.std.specs.List.{count_by, find, list_any, AllByRecursion}
 use Rattle.std.specs.Option.{option_map_or}
@@ -19,20 +19,16 @@ use Rattle.history.specs.Read.{history_at}
 use Rattle.history.specs.Refusal.{chart_now, chart_refusal, charts_full, dimension_refusal, dimensions_full, has_dimension, is_new_chart, is_new_dimension}
 use Rattle.history.specs.Registry.{Registry, is_chart, is_dimension, is_of, same_chart, same_dimension, with_definitions}
 use Rattle.history.specs.Regular.{AreApart}
-use Rattle.chart_registry.specs.declared.fault.RegistryFault.{RegistryFault}
-use Rattle.chart_registry.specs.declared.fault.RegistryFault.TheVariants.{GridChanged, TooManyCharts, TooManyDimensions, Memory}
-use Rattle.chart_registry.specs.Defining.{changes_grids, other_grid, IsReasonOf}
 use Rattle.chart_registry.proofs.ApartLemmas.{apart-charts, chart-left, same-parts, turned}
 use Rattle.chart_registry.proofs.Applying.{all-put, has_chart-any, same_chart-alike}
 use Rattle.chart_registry.proofs.Finding.{found-all, found-passes, nat_eq_same, one_if}
-use Rattle.chart_registry.proofs.Growing.{length-put_all as length-grown, more_definitions, same_dimension-alike}
+use Rattle.chart_registry.proofs.Growing.{same_dimension-alike}
 use Rattle.chart_registry.proofs.OpenLemmas.{chart-same, charts-apart}
-use Rattle.chart_registry.proofs.ReasonLemmas.{count-put_all as count-grown, of-alike}
 use Rattle.chart_registry.proofs.RegistryLemmas.{or_false}
 use Rattle.chart_registry.proofs.RowsLemmas.{same_text}
-use Rattle.chart_registry.specs.Accepted.{AreAccepted, HasFew, IsWithin}
-use Rattle.chart_registry.proofs.FewLemmas.{count-cons, count-put_all, count_of, few-closed}
-use Rattle.chart_registry.proofs.AcceptedLemmas.{passed, text-open_few, wanted}
+use Rattle.chart_registry.specs.Accepted.{AreAccepted}
+use Rattle.chart_registry.proofs.FewLemmas.{count-cons, count-put_all, count_of}
+use Rattle.chart_registry.proofs.AcceptedLemmas.{passed, wanted}
 
 -- ---- how long a list is that takes more
 count-all : {A : Type 0} (xs : List A) → count_by (λ (x : A). true) xs ≡ length xs
@@ -76,61 +72,6 @@ none-and p g (x ∷ xs) none = let parts = or_false (p x) (list_any p xs) none i
 -- the registry has a chart with this id and another update_every
 abbrev pub has_other_grid : Registry → List ℕ → ℕ → Bool
 has_other_grid registry id every = option_map_or (λ (old : ChartDef). not (nat_eq old.update_every every)) (find (is_chart id) registry.charts) false
-
--- among charts that are apart only the one that a search finds has an id
-found-grid : (id : List ℕ) (g : ChartDef → Bool) (xs : List ChartDef) → AreApart same_chart xs → option_map_or g (find (is_chart id) xs) false ≡ false
-    → list_any (λ (old : ChartDef). is_chart id old && g old) xs ≡ false
-found-grid id g [] apart free = refl
-found-grid id g (x ∷ xs) apart free = by (is_chart id x) refl free (found-grid id g xs apart.1)
-  where
-    by : (b : Bool) → is_chart id x ≡ b → option_map_or g (cond b (Some x) (find (is_chart id) xs)) false ≡ false
-        → (option_map_or g (find (is_chart id) xs) false ≡ false → list_any (λ (old : ChartDef). is_chart id old && g old) xs ≡ false)
-        → ((is_chart id x && g x) || list_any (λ (old : ChartDef). is_chart id old && g old) xs) ≡ false
-    by true e free rest =
-        let none : list_any (is_chart id) xs ≡ false = ap (λ (id : List ℕ). list_any (is_chart id) xs) (same_text id x.id e) ∙ apart.0 in
-        λ i. (e i && free i) || none-and (is_chart id) g xs none i
-    by false e free rest = λ i. (e i && g x) || rest free i
-
--- among charts that are apart none has another one's id
-own-grids : (cs : List ChartDef) → AreApart same_chart cs → AllByRecursion (λ (def : ChartDef). list_any (other_grid def) cs ≡ false) cs
-own-grids [] apart = tt
-own-grids (x ∷ xs) apart = (
-  λ i. (chart-same x i && not (nat_eq_same x.update_every i)) || none-and (same_chart x) (λ (old : ChartDef). not (nat_eq old.update_every x.update_every)) xs apart.0 i,
-  others xs apart.0 (own-grids xs apart.1),
-)
-  where
-    others : (ys : List ChartDef) → list_any (same_chart x) ys ≡ false → AllByRecursion (λ (def : ChartDef). list_any (other_grid def) xs ≡ false) ys
-        → AllByRecursion (λ (def : ChartDef). list_any (other_grid def) (x ∷ xs) ≡ false) ys
-    others [] none own = tt
-    others (y ∷ ys) none own = let parts = or_false (same_chart x y) (list_any (same_chart x) ys) none in (
-      λ i. (turned same_chart chart-same chart-left x y parts.0 i && not (nat_eq x.update_every y.update_every)) || own.0 i,
-      others ys parts.1 own.1,
-    )
-
-module _ (registry : Registry) (beat : OpenBeat) where
-  pub grids-kept : AreApart same_chart registry.charts → AreApart same_chart beat.charts
-      → AllByRecursion (λ (def : ChartDef). has_other_grid registry def.id def.update_every ≡ false) beat.charts → changes_grids registry beat ≡ false
-  grids-kept apart own kept = by beat.charts kept (own-grids beat.charts own)
-    where
-      by : (cs : List ChartDef) → AllByRecursion (λ (def : ChartDef). has_other_grid registry def.id def.update_every ≡ false) cs
-          → AllByRecursion (λ (def : ChartDef). list_any (other_grid def) beat.charts ≡ false) cs
-          → list_any (λ (def : ChartDef). list_any (other_grid def) registry.charts || list_any (other_grid def) beat.charts) cs ≡ false
-      by [] kept own = refl
-      by (def ∷ cs) kept own =
-          let grid = found-grid def.id (λ (old : ChartDef). not (nat_eq old.update_every def.update_every)) registry.charts apart kept.0 in
-          λ i. (grid i || own.0 i) || by cs kept.1 own.1 i
-
-  abbrev after : Registry
-  after = with_definitions registry beat.charts beat.dimensions
-
-  -- a beat that changes no update_every and keeps within the limits is refused for memory alone
-  pub only-memory : changes_grids registry beat ≡ false → length after.charts ≤ 4096 → length after.dimensions ≤ 65536 → HasFew after
-      → (fault : RegistryFault) → IsReasonOf registry beat fault → fault ≡ Memory
-  only-memory grids charts dimensions few GridChanged reason = absurd (true≢false (sym reason ∙ grids))
-  only-memory grids charts dimensions few TooManyCharts reason = absurd (omega (arith, reason, charts))
-  only-memory grids charts dimensions few TooManyDimensions (inl many) = absurd (omega (arith, many, dimensions))
-  only-memory grids charts dimensions few TooManyDimensions (inr (chart, many)) = absurd (omega (arith, many, few chart))
-  only-memory grids charts dimensions few Memory reason = refl
 
 -- ---- what holds after each line
 -- a registry has room for these definitions, and no chart changes its update_every
@@ -250,42 +191,3 @@ module _ (every : ℕ) (h : List Beat) (few_charts : length (registry_of h).char
   text-room (line.Disable ∷ past) accepted = text-room past accepted.1
   text-room (line.Query text ∷ past) accepted = text-room past accepted.1
   text-room (line.Skipped ∷ past) accepted = text-room past accepted.1
-
-  -- the registry takes the open beat where there is memory
-  pub text-reason : (past : List Line) → HasFew (registry_of h) → AreAccepted every h past → (fault : RegistryFault) → IsReasonOf (now past) (beat every past) fault → fault ≡ Memory
-  text-reason past few accepted =
-      let room : HasRoomFor (now past) (charts every past) (dimensions past) = text-room past accepted in
-      only-memory (now past) (beat every past)
-      (grids-kept (now past) (beat every past) (apart-charts (history_at every h past)) (charts-apart every past) room.grids)
-      (room-charts (now past) (charts every past) (dimensions past) (rows past) room)
-      (room-dimensions (now past) (charts every past) (dimensions past) (rows past) room)
-      (λ chart. omega (arith, few-closed (now past) (dimensions past) chart, text-open_few every h past few accepted chart))
-
--- ---- a registry before it took definitions
-within-before : (registry : Registry) (cs : List ChartDef) (ds : List OpenDim) → IsWithin (with_definitions registry cs ds) → IsWithin registry
-within-before registry cs ds within = record {
-  charts = omega (arith, length-grown same_chart (is_chart []) (same_chart-alike []) registry.charts cs, within.charts);
-  dimensions = omega (arith, more_definitions registry cs ds, within.dimensions);
-  each = λ chart. omega (arith, count-grown same_dimension (is_of chart) (of-alike chart) registry.dimensions ds, within.each chart);
-}
-
-module _ (every : ℕ) (h : List Beat) where
-  text-before : (past : List Line) → IsWithin (registry_of (history_at every h past)) → IsWithin (registry_of h)
-  text-before [] within = within
-  text-before (line.Moment moment ∷ past) within = text-before past (within-before (registry_of (history_at every h past)) (charts every past) (dimensions past) within)
-  text-before (line.Chart def ∷ past) within = text-before past within
-  text-before (line.Dimension def ∷ past) within = text-before past within
-  text-before (line.Begin chart ∷ past) within = text-before past within
-  text-before (line.Set id value anomalous ∷ past) within = text-before past within
-  text-before (line.End ∷ past) within = text-before past within
-  text-before (line.Flush ∷ past) within = text-before past within
-  text-before (line.Disable ∷ past) within = text-before past within
-  text-before (line.Query text ∷ past) within = text-before past within
-  text-before (line.Skipped ∷ past) within = text-before past within
-
-  -- a registry that has no more than it may have takes the open beat where there is memory
-  pub text-short : (past : List Line) → IsWithin (registry_of (history_at every h past)) → AreAccepted every h past
-      → (fault : RegistryFault) → IsReasonOf (registry_of (history_at every h past)) (beat every past) fault → fault ≡ Memory
-  text-short past within accepted =
-      let before = text-before past within in
-      text-reason every h before.charts before.dimensions past before.each accepted

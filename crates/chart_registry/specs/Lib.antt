@@ -6,3 +6,4 @@ pub mod Leaving
 pub mod Places
 pub mod Rows
 pub mod Tables
+pub mod Taking

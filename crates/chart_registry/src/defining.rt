@@ -1,69 +1,59 @@
-//! The definitions of a beat, with what each of them changes, so that all can be taken back.
+//! Definitions by number that are taken one after the other, with what each of them changes, so that all can be taken
+//! back.
 
-ghost use Rattle.std.specs.Prelude.{◌≡◌, ℕ, ◌-◌, ◌<◌, [], ◌∷◌, ◌++◌, length, None, true, All, IfErr, OnOk, OnErr, MatchResult};
-ghost use Rattle.std.specs.List.{list_any};
-ghost use Rattle.history.specs.Registry.{is_chart, with_definitions, Registry as Definitions};
-ghost use Rattle.history.specs.Refusal.{has_chart, chart_refusal, dimension_refusal};
-ghost use Rattle.chart_registry.specs.declared.fault.RegistryFault.TheVariants as registry_fault;
+ghost use Rattle.std.specs.Prelude.{◌≡◌, ℕ, ◌-◌, [], ◌∷◌, ◌++◌, length, true, OnOk, OnErr};
+ghost use Rattle.history.specs.Registry.{Registry as Definitions};
 ghost use Rattle.chart_registry.specs.Changes.{IsChange, AreChanges};
-ghost use Rattle.chart_registry.specs.Defining.{nothing_open, chart_reason, dimension_reason, MayDefine, IsFirstRefused, RefusesChart, RefusesDimension, RefusedBy};
+ghost use Rattle.chart_registry.specs.Taking.{all_taken, takes_chart, takes_dimension, with_chart, with_charts, with_dimension, with_dimensions};
 
 use crate::changes::Change;
-use crate::fault::RegistryFault;
 use crate::registry::Registry;
-use history::{ChartDef, OpenBeat, OpenDim};
+use history::{NumberedChart, NumberedDimension};
+use std::alloc::AllocError;
 
-/// Takes the definitions of a beat, the charts first, each list in its order, up to the first that is refused or
-/// for which there is no memory, and adds what each of them changed.
+/// Takes definitions, the charts first, each list in its order, up to the first for which there is no memory, and
+/// adds what each of them changed.
 pub(crate) fn define(
     registry: &mut Registry,
-    beat: &OpenBeat,
+    charts: &[NumberedChart],
+    dimensions: &[NumberedDimension],
     changes: &mut Vec<Change>,
-) -> Result<(), RegistryFault>
-    requires grids { All (λ def. 0 < def.update_every) beat.now.charts }
-    requires owned { All
-        (λ dimension. has_chart registry.old beat.now dimension.chart ≡ true) beat.now.dimensions }
+) -> Result<(), AllocError>
+    requires charts { all_taken takes_chart with_chart registry.old charts.now ≡ true }
+    requires dimensions { all_taken takes_dimension with_dimension
+        (with_charts registry.old charts.now) dimensions.now ≡ true }
     ensures ok { OnOk result
-        (registry.new ≡ with_definitions registry.old beat.now.charts beat.now.dimensions) }
-    ensures free { OnOk result (MayDefine registry.old beat.now) }
-    ensures first { IfErr result (IsFirstRefused registry.old beat.now) }
+        (registry.new ≡ with_dimensions (with_charts registry.old charts.now) dimensions.now) }
     ensures noted { (before : Definitions) → AreChanges before changes.old.items registry.old
         → AreChanges before changes.new.items registry.new }
 {
-    define_charts(registry, beat.charts.as_slice(), changes)?;
-    define_dimensions(registry, beat.dimensions.as_slice(), changes)
+    define_charts(registry, charts, changes)?;
+    define_dimensions(registry, dimensions, changes)
 }
 
 fn define_charts(
     registry: &mut Registry,
-    charts: &[ChartDef],
+    charts: &[NumberedChart],
     changes: &mut Vec<Change>,
-) -> Result<(), RegistryFault>
-    requires { All (λ def. 0 < def.update_every) charts.now }
-    ensures ok { OnOk result (registry.new ≡ with_definitions registry.old charts.now []) }
-    ensures free { OnOk result
-        ((place : ℕ) → chart_reason registry.old charts.now place ≡ None) }
-    ensures first { IfErr result (RefusesChart registry.old charts.now) }
+) -> Result<(), AllocError>
+    requires { all_taken takes_chart with_chart registry.old charts.now ≡ true }
+    ensures ok { OnOk result (registry.new ≡ with_charts registry.old charts.now) }
     ensures noted { (before : Definitions) → AreChanges before changes.old.items registry.old
         → AreChanges before changes.new.items registry.new }
 {
-    for def in charts {
-        define_chart(registry, def, changes)?;
+    for chart in charts {
+        define_chart(registry, chart, changes)?;
     }
     Ok(())
 }
 
 fn define_dimensions(
     registry: &mut Registry,
-    dimensions: &[OpenDim],
+    dimensions: &[NumberedDimension],
     changes: &mut Vec<Change>,
-) -> Result<(), RegistryFault>
-    requires { All (λ dimension. list_any (is_chart dimension.chart) registry.old.charts
-        ≡ true) dimensions.now }
-    ensures ok { OnOk result (registry.new ≡ with_definitions registry.old [] dimensions.now) }
-    ensures free { OnOk result
-        ((place : ℕ) → dimension_reason registry.old dimensions.now place ≡ None) }
-    ensures first { IfErr result (RefusesDimension registry.old dimensions.now) }
+) -> Result<(), AllocError>
+    requires { all_taken takes_dimension with_dimension registry.old dimensions.now ≡ true }
+    ensures ok { OnOk result (registry.new ≡ with_dimensions registry.old dimensions.now) }
     ensures noted { (before : Definitions) → AreChanges before changes.old.items registry.old
         → AreChanges before changes.new.items registry.new }
 {
@@ -73,48 +63,39 @@ fn define_dimensions(
     Ok(())
 }
 
-/// Defines a chart, and adds what that changed. After an `Err` all is as before.
+/// Takes a chart, and adds what that changed. After an `Err` all is as before.
 fn define_chart(
     registry: &mut Registry,
-    def: &ChartDef,
+    chart: &NumberedChart,
     changes: &mut Vec<Change>,
-) -> Result<(), RegistryFault>
-    requires { 0 < def.now.update_every }
-    ensures ok { OnOk result (registry.new ≡ with_definitions registry.old (def.now ∷ []) []) }
-    ensures refused { let reason = chart_refusal registry.old nothing_open def.now in
-        MatchResult result (λ _. reason ≡ None) (RefusedBy reason) }
+) -> Result<(), AllocError>
+    requires { takes_chart registry.old chart.now ≡ true }
+    ensures ok { OnOk result (registry.new ≡ with_chart registry.old chart.now) }
     ensures err { OnErr result (registry.new ≡ registry.old) }
     ensures unnoted { OnErr result (changes.new.items ≡ changes.old.items) }
     ensures noted { OnOk result ((before : Definitions)
         → AreChanges before changes.old.items registry.old
         → AreChanges before changes.new.items registry.new) }
 {
-    let (_, change) = registry.change_chart(def)?;
+    let change = registry.change_chart(chart)?;
     note(registry, change, changes)
 }
 
-/// Defines a dimension of a chart that is there, and adds what that changed. After an `Err` all is as before.
+/// Takes a dimension, and adds what that changed. After an `Err` all is as before.
 fn define_dimension(
     registry: &mut Registry,
-    dimension: &OpenDim,
+    dimension: &NumberedDimension,
     changes: &mut Vec<Change>,
-) -> Result<(), RegistryFault>
-    requires { list_any (is_chart dimension.now.chart) registry.old.charts ≡ true }
-    ensures ok { OnOk result
-        (registry.new ≡ with_definitions registry.old [] (dimension.now ∷ [])) }
-    ensures refused { let reason = dimension_refusal registry.old nothing_open
-        dimension.now.chart dimension.now.def in
-        MatchResult result (λ _. reason ≡ None) (RefusedBy reason) }
+) -> Result<(), AllocError>
+    requires { takes_dimension registry.old dimension.now ≡ true }
+    ensures ok { OnOk result (registry.new ≡ with_dimension registry.old dimension.now) }
     ensures err { OnErr result (registry.new ≡ registry.old) }
     ensures unnoted { OnErr result (changes.new.items ≡ changes.old.items) }
     ensures noted { OnOk result ((before : Definitions)
         → AreChanges before changes.old.items registry.old
         → AreChanges before changes.new.items registry.new) }
 {
-    let Some(chart) = registry.chart_of(dimension.chart.as_str()) else {
-        unreachable!()
-    };
-    let (_, change) = registry.change_dimension(chart, &dimension.def)?;
+    let change = registry.change_dimension(dimension)?;
     note(registry, change, changes)
 }
 
@@ -123,11 +104,10 @@ fn note(
     registry: &mut Registry,
     change: Change,
     changes: &mut Vec<Change>,
-) -> Result<(), RegistryFault>
+) -> Result<(), AllocError>
     requires { (before : Definitions) × IsChange before change registry.old }
     ensures ok { OnOk result (registry.new ≡ registry.old) }
     ensures noted { OnOk result (changes.new.items ≡ changes.old.items ++ change ∷ []) }
-    ensures memory { IfErr result (λ fault. fault ≡ registry_fault.Memory) }
     ensures err { OnErr result
         ((before : Definitions) → IsChange before change registry.old → registry.new ≡ before) }
     ensures unnoted { OnErr result (changes.new.items ≡ changes.old.items) }
@@ -136,7 +116,7 @@ fn note(
         Ok(()) => Ok(()),
         Err(failed) => {
             registry.undo(failed.value);
-            Err(RegistryFault::Memory)
+            Err(AllocError)
         }
     }
 }

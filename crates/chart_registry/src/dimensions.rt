@@ -71,15 +71,14 @@ pub(crate) fn add(
     dimensions: &mut Vec<Dimension>,
     number: u32,
     def: &DimDef,
-) -> Result<u32, AllocError>
+) -> Result<(), AllocError>
     requires there { number < length (chart_defs charts.old) }
     requires few { length dimensions.old.items < MOST_DIMENSIONS }
     requires absent { series_in (row_at (rows charts.old) number).series def.now.id ≡ None }
     ensures by_id { AreById charts.old → AreById charts.new }
     ensures defs { chart_defs charts.new ≡ chart_defs charts.old }
-    ensures series { IfOk result (λ series. series ≡ length dimensions.old.items) }
-    ensures rows { IfOk result
-        (λ series. EntersSeries (rows charts.old) number def.now.id series (rows charts.new)) }
+    ensures rows { OnOk result (EntersSeries (rows charts.old) number def.now.id
+        (length dimensions.old.items) (rows charts.new)) }
     ensures ok { OnOk result (dimensions.new.items ≡ dimensions.old.items
         ++ record {
           owner = number;
@@ -98,5 +97,5 @@ pub(crate) fn add(
     let series = dimensions.len() as u32;
     charts::enter(charts, number, id, series)?;
     dimensions.push(dimension).unwrap();
-    Ok(series)
+    Ok(())
 }

@@ -1,7 +1,6 @@
 //! What the registry says of the charts and dimensions that a beat defines.
 
-ghost use Rattle.std.specs.Prelude.{◌≡◌, ◌<◌, ◌≤◌, ◌%◌, ◌==◌, ◌&&◌, true, false, not, nat_lt, length, count_by, find};
-ghost use Rattle.chart_registry.specs.Defining.{chart_id};
+ghost use Rattle.std.specs.Prelude.{◌≡◌, ◌≤◌, ◌%◌, ◌==◌, ◌&&◌, true, false, not, nat_lt, length, count_by, find};
 ghost use Rattle.std.specs.List.{list_any};
 ghost use Rattle.std.specs.Option.{option_map, option_map_or};
 ghost use Rattle.history.specs.Refusal.{is_new_chart, is_new_dimension, is_new_of};
@@ -52,19 +51,11 @@ pub fn is_known_dimension_at(
     ensures { result ≡ list_any (is_dimension chart.now id.now) registry.now.dimensions }
 {
     match number {
-        Some(number) if is_number_of(registry, number, chart) => {
+        Some(number) if registry.is_number_of(number, chart) => {
             registry.series_of(number, id).is_some()
         }
         _ => is_known_dimension(registry, chart, id),
     }
-}
-
-// Whether the registry has this chart at this number.
-fn is_number_of(registry: &Registry, number: u32, chart: &str) -> bool
-    ensures within { result ≡ true → number < length registry.now.charts }
-    ensures chart { result ≡ true → chart_id registry.now number ≡ chart.now }
-{
-    number < registry.charts() && chart == registry.chart(number).id.as_str()
 }
 
 /// How many dimensions of this chart the registry has.

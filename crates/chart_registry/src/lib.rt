@@ -18,13 +18,11 @@ mod charts;
 mod defining;
 mod dimension_table;
 mod dimensions;
-mod fault;
 mod known;
 mod registry;
 
 pub use chart_table::ChartTable;
 pub use dimension_table::DimensionTable;
-pub use fault::RegistryFault;
 pub use known::{
     is_known_dimension, is_known_dimension_at, is_new_chart, is_new_dimension, is_off,
     known_dimensions_of, known_update_every, new_charts, new_dimensions, new_dimensions_of,

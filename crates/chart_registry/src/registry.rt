@@ -1,21 +1,23 @@
-ghost use Rattle.std.specs.Prelude.{◌≡◌, ℕ, ◌<◌, ◌≤◌, [], ◌∷◌, length, count_by, find, slice_get, take, Option, Some, None, true, false, All, is_some, IfOk, IfErr, IfSome, IfNone, OnOk, OnErr, MatchResult};
+ghost use Rattle.std.specs.Prelude.{◌≡◌, ℕ, ◌<◌, ◌≤◌, ◌&&◌, length, count_by, find, slice_get, Option, Some, None, true, false, is_some, is_none, IfOk, IfSome, IfNone, OnOk, OnErr};
 ghost use Rattle.std.specs.List.{list_any};
 ghost use Rattle.std.specs.Option.{option_and_then, option_map};
-ghost use Rattle.history.specs.Registry.{empty, is_chart, is_of, is_dimension, chart_of, series_of, with_definitions};
-ghost use Rattle.history.specs.Refusal.{has_chart, chart_refusal, dimension_refusal, dimensions_full};
-ghost use Rattle.chart_registry.specs.Accepted.{IsWithin};
-ghost use Rattle.chart_registry.specs.Defining.{nothing_open, chart_id, MayDefine, IsFirstRefused, IsReasonOf, RefusedBy};
+ghost use Rattle.history.specs.Registry.{empty, is_chart, is_of, is_dimension, chart_of, series_of};
+ghost use Rattle.history.specs.Refusal.{chart_refusal, dimension_refusal, dimensions_full};
+ghost use Rattle.chart_registry.specs.Defining.{nothing_open, chart_id};
 ghost use Rattle.chart_registry.specs.Changes.{IsChange};
+ghost use Rattle.chart_registry.specs.Taking.{all_taken, is_number, takes_chart, takes_dimension, with_chart, with_charts, with_dimension, with_dimensions};
 ghost use Rattle.history.specs.Registry.{Registry as Definitions};
 
 use crate::changes::Change;
 use crate::charts::{self, Chart};
 use crate::defining;
 use crate::dimensions::{self, Dimension};
-use crate::fault::RegistryFault;
-use history::{ChartDef, DimDef, MOST_CHARTS, MOST_DIMENSIONS, MOST_DIMENSIONS_OF_CHART, OpenBeat};
+use history::{
+    ChartDef, DimDef, MOST_CHARTS, MOST_DIMENSIONS, MOST_DIMENSIONS_OF_CHART, NumberedChart,
+    NumberedDimension,
+};
 use indexmap::IndexMap;
-use std::alloc::Global;
+use std::alloc::{AllocError, Global};
 use std::marker::Model;
 
 /// The charts and dimensions of a history, which contracts see as their last definitions in the order
@@ -111,49 +113,101 @@ impl Registry {
         charts::series_of(&self.charts, chart, id)
     }
 
-    /// Defines a chart, or replaces its definition: `Ok` is its number. `GridChanged` where the chart has
-    /// another update_every, and `TooManyCharts` at a 4,097th chart. After an `Err` all is as before.
-    pub fn define_chart(&mut self, def: &ChartDef) -> Result<u32, RegistryFault>
-        requires { 0 < def.now.update_every }
-        ensures number { IfOk result (λ number. chart_of self.new def.now.id ≡ Some number) }
-        ensures within { IfOk result (λ number. number < length self.new.charts) }
-        ensures ok { OnOk result (self.new ≡ with_definitions self.old (def.now ∷ []) []) }
-        ensures err { OnErr result (self.new ≡ self.old) }
-        ensures refused { let reason = chart_refusal self.old nothing_open def.now in
-            MatchResult result (λ _. reason ≡ None) (RefusedBy reason) }
+    /// Whether the chart with this id has this number. Nothing is looked up.
+    pub fn is_number_of(&self, number: u32, id: &str) -> bool
+        ensures value { result ≡ is_number number (chart_of self.now id.now) }
+        ensures within { result ≡ true → number < length self.now.charts }
+        ensures chart { result ≡ true → chart_id self.now number ≡ id.now }
     {
-        let (number, _) = self.change_chart(def)?;
-        Ok(number)
+        number < self.charts() && id == self.chart(number).id.as_str()
+    }
+
+    /// Whether the dimension with this id, of the chart with this number, has this series. Nothing is looked up.
+    pub fn is_series_of(&self, series: u32, chart: u32, id: &str) -> bool
+        requires { chart < length self.now.charts }
+        ensures { result
+            ≡ is_number series (series_of self.now (chart_id self.now chart) id.now) }
+    {
+        if series >= self.dimensions() {
+            return false;
+        }
+        let dimension = &self.dimensions[series as usize];
+        dimension.owner == chart && id == dimension.definition.def.id.as_str()
+    }
+
+    /// Whether the registry may take this chart by its number: the chart has an update_every and keeps its limits, and
+    /// either it is the one with this number and has the same update_every there, or its number is the next one, its
+    /// id is new and it is at most the 4,096th. Only a new id is looked up.
+    pub fn takes_chart(&self, chart: &NumberedChart) -> bool
+        ensures { result ≡ takes_chart self.now chart.now }
+    {
+        let def = &chart.def;
+        def.update_every > 0 && def.keeps_limits() && self.has_place_for_chart(chart)
+    }
+
+    /// Whether a chart may be defined, and then has the number that it says.
+    fn has_place_for_chart(&self, chart: &NumberedChart) -> bool
+        ensures { result ≡ (is_none (chart_refusal self.now nothing_open chart.now.def)
+            && is_number chart.now.number
+            (chart_of (with_chart self.now chart.now) chart.now.def.id)) }
+    {
+        if chart.number < self.charts() {
+            self.is_same_chart(chart)
+        } else {
+            self.is_next_chart(chart)
+        }
+    }
+
+    /// The same, where there is a chart with this number.
+    fn is_same_chart(&self, chart: &NumberedChart) -> bool
+        requires { chart.now.number < length self.now.charts }
+        ensures { result ≡ (is_none (chart_refusal self.now nothing_open chart.now.def)
+            && is_number chart.now.number
+            (chart_of (with_chart self.now chart.now) chart.now.def.id)) }
+    {
+        let update_every = self.chart(chart.number).update_every;
+        self.is_number_of(chart.number, chart.def.id.as_str())
+            && update_every == chart.def.update_every
+    }
+
+    /// The same, where there is no chart with this number yet.
+    fn is_next_chart(&self, chart: &NumberedChart) -> bool
+        requires { length self.now.charts ≤ chart.now.number }
+        ensures { result ≡ (is_none (chart_refusal self.now nothing_open chart.now.def)
+            && is_number chart.now.number
+            (chart_of (with_chart self.now chart.now) chart.now.def.id)) }
+    {
+        if chart.number >= MOST_CHARTS {
+            return false;
+        }
+        chart.number == self.charts() && self.chart_of(chart.def.id.as_str()).is_none()
+    }
+
+    /// Takes a chart by its number, in the place of its definition so far or behind all charts. After an `Err` all is
+    /// as before. Nothing is looked up but what a new id needs to be kept.
+    pub fn take_chart(&mut self, chart: &NumberedChart) -> Result<(), AllocError>
+        requires { takes_chart self.old chart.now ≡ true }
+        ensures taken { OnOk result (self.new ≡ with_chart self.old chart.now) }
+        ensures unchanged { OnErr result (self.new ≡ self.old) }
+    {
+        let _change = self.change_chart(chart)?;
+        Ok(())
     }
 
     /// The same, and tells what changed.
-    pub(crate) fn change_chart(&mut self, def: &ChartDef) -> Result<(u32, Change), RegistryFault>
-        requires { 0 < def.now.update_every }
-        ensures number { IfOk result (λ made. chart_of self.new def.now.id ≡ Some made.0) }
-        ensures within { IfOk result (λ made. made.0 < length self.new.charts) }
-        ensures ok { OnOk result (self.new ≡ with_definitions self.old (def.now ∷ []) []) }
-        ensures change { IfOk result (λ made. IsChange self.old made.1 self.new) }
+    pub(crate) fn change_chart(&mut self, chart: &NumberedChart) -> Result<Change, AllocError>
+        requires { takes_chart self.old chart.now ≡ true }
+        ensures ok { OnOk result (self.new ≡ with_chart self.old chart.now) }
+        ensures change { IfOk result (λ change. IsChange self.old change self.new) }
         ensures err { OnErr result (self.new ≡ self.old) }
-        ensures refused { let reason = chart_refusal self.old nothing_open def.now in
-            MatchResult result (λ _. reason ≡ None) (RefusedBy reason) }
     {
-        match charts::number_of(&self.charts, def.id.as_str()) {
-            Some(number) => {
-                if charts::chart_at(&self.charts, number).def.update_every != def.update_every {
-                    return Err(RegistryFault::GridChanged);
-                }
-                let chart = def.clone()?;
-                let before = charts::exchange(&mut self.charts, number, chart);
-                Ok((number, Change::ChartReplaced(number, before)))
-            }
-            None => {
-                let number = self.charts();
-                if number >= MOST_CHARTS {
-                    return Err(RegistryFault::TooManyCharts);
-                }
-                charts::add(self.alloc, &mut self.charts, def)?;
-                Ok((number, Change::ChartAdded))
-            }
+        if chart.number < self.charts() {
+            let def = chart.def.clone()?;
+            let before = charts::exchange(&mut self.charts, chart.number, def);
+            Ok(Change::ChartReplaced(chart.number, before))
+        } else {
+            charts::add(self.alloc, &mut self.charts, &chart.def)?;
+            Ok(Change::ChartAdded)
         }
     }
 
@@ -166,57 +220,83 @@ impl Registry {
             || self.dimensions() >= MOST_DIMENSIONS
     }
 
-    /// Defines a dimension of the chart with this number, or replaces its definition: `Ok` is its series.
-    /// `TooManyDimensions` at a 1,025th of its chart or a 65,537th in all. After an `Err` all is as before.
-    pub fn define_dimension(&mut self, chart: u32, def: &DimDef) -> Result<u32, RegistryFault>
-        requires { chart < length self.old.charts }
-        ensures series { IfOk result
-            (λ series. series_of self.new (chart_id self.old chart) def.now.id ≡ Some series) }
-        ensures within { IfOk result (λ series. series < length self.new.dimensions) }
-        ensures ok { OnOk result (self.new
-            ≡ with_definitions self.old []
-            (record { chart = chart_id self.old chart; def = def.now } ∷ [])) }
-        ensures err { OnErr result (self.new ≡ self.old) }
-        ensures refused { let reason = dimension_refusal self.old nothing_open
-            (chart_id self.old chart) def.now in
-            MatchResult result (λ _. reason ≡ None) (RefusedBy reason) }
+    /// Whether the registry may take this dimension by its numbers: its chart is there, it keeps its limits, and either
+    /// it is the one with this series, or its series is the next number, its chart has no dimension with its id and
+    /// there is room for it. Only a new id is looked up.
+    pub fn takes_dimension(&self, dimension: &NumberedDimension) -> bool
+        ensures { result ≡ takes_dimension self.now dimension.now }
     {
-        let (series, _) = self.change_dimension(chart, def)?;
-        Ok(series)
+        dimension.chart < self.charts()
+            && dimension.def.keeps_limits()
+            && self.has_place_for_dimension(dimension)
+    }
+
+    /// Whether a dimension of a chart that is there may be defined, and then has the series that it says.
+    fn has_place_for_dimension(&self, dimension: &NumberedDimension) -> bool
+        requires { dimension.now.chart < length self.now.charts }
+        ensures { result ≡ (is_none (dimension_refusal self.now nothing_open
+            (chart_id self.now dimension.now.chart) dimension.now.def)
+            && is_number dimension.now.series
+            (series_of (with_dimension self.now dimension.now)
+            (chart_id self.now dimension.now.chart) dimension.now.def.id)) }
+    {
+        if dimension.series < self.dimensions() {
+            self.is_series_of(
+                dimension.series,
+                dimension.chart,
+                dimension.def.id.as_str(),
+            )
+        } else {
+            self.is_next_dimension(dimension)
+        }
+    }
+
+    /// The same, where there is no dimension with this series yet.
+    fn is_next_dimension(&self, dimension: &NumberedDimension) -> bool
+        requires chart { dimension.now.chart < length self.now.charts }
+        requires next { length self.now.dimensions ≤ dimension.now.series }
+        ensures { result ≡ (is_none (dimension_refusal self.now nothing_open
+            (chart_id self.now dimension.now.chart) dimension.now.def)
+            && is_number dimension.now.series
+            (series_of (with_dimension self.now dimension.now)
+            (chart_id self.now dimension.now.chart) dimension.now.def.id)) }
+    {
+        if self.is_full(dimension.chart) {
+            return false;
+        }
+        let id = dimension.def.id.as_str();
+        dimension.series == self.dimensions() && self.series_of(dimension.chart, id).is_none()
+    }
+
+    /// Takes a dimension by its numbers, in the place of its definition so far or behind all dimensions. After an `Err`
+    /// all is as before. Nothing is looked up but what a new id needs to be kept.
+    pub fn take_dimension(&mut self, dimension: &NumberedDimension) -> Result<(), AllocError>
+        requires { takes_dimension self.old dimension.now ≡ true }
+        ensures taken { OnOk result (self.new ≡ with_dimension self.old dimension.now) }
+        ensures unchanged { OnErr result (self.new ≡ self.old) }
+    {
+        let _change = self.change_dimension(dimension)?;
+        Ok(())
     }
 
     /// The same, and tells what changed.
     pub(crate) fn change_dimension(
         &mut self,
-        chart: u32,
-        def: &DimDef,
-    ) -> Result<(u32, Change), RegistryFault>
-        requires { chart < length self.old.charts }
-        ensures series { IfOk result
-            (λ made. series_of self.new (chart_id self.old chart) def.now.id ≡ Some made.0) }
-        ensures within { IfOk result (λ made. made.0 < length self.new.dimensions) }
-        ensures ok { OnOk result (self.new
-            ≡ with_definitions self.old []
-            (record { chart = chart_id self.old chart; def = def.now } ∷ [])) }
-        ensures change { IfOk result (λ made. IsChange self.old made.1 self.new) }
+        dimension: &NumberedDimension,
+    ) -> Result<Change, AllocError>
+        requires { takes_dimension self.old dimension.now ≡ true }
+        ensures ok { OnOk result (self.new ≡ with_dimension self.old dimension.now) }
+        ensures change { IfOk result (λ change. IsChange self.old change self.new) }
         ensures err { OnErr result (self.new ≡ self.old) }
-        ensures refused { let reason = dimension_refusal self.old nothing_open
-            (chart_id self.old chart) def.now in
-            MatchResult result (λ _. reason ≡ None) (RefusedBy reason) }
     {
-        match charts::series_of(&self.charts, chart, def.id.as_str()) {
-            Some(series) => {
-                let dimension = def.clone()?;
-                let before = dimensions::exchange(&mut self.dimensions, series, dimension);
-                Ok((series, Change::DimensionReplaced(series, before)))
-            }
-            None => {
-                if self.is_full(chart) {
-                    return Err(RegistryFault::TooManyDimensions);
-                }
-                let series = dimensions::add(&mut self.charts, &mut self.dimensions, chart, def)?;
-                Ok((series, Change::DimensionAdded))
-            }
+        let def = &dimension.def;
+        if dimension.series < self.dimensions() {
+            let after = def.clone()?;
+            let before = dimensions::exchange(&mut self.dimensions, dimension.series, after);
+            Ok(Change::DimensionReplaced(dimension.series, before))
+        } else {
+            dimensions::add(&mut self.charts, &mut self.dimensions, dimension.chart, def)?;
+            Ok(Change::DimensionAdded)
         }
     }
 
@@ -239,31 +319,26 @@ impl Registry {
         }
     }
 
-    /// Takes all definitions of a beat, or none of them: the error is why the first that is refused is so, the
-    /// charts first and each list in its order, or Memory where nothing else stands against it. After an `Err`
-    /// all is as before. Whatever it answers, the registry had no more charts and dimensions than there may be.
-    pub fn apply(&mut self, beat: &OpenBeat) -> Result<(), RegistryFault>
-        requires grids { All (λ def. 0 < def.update_every) beat.now.charts }
-        requires owned { All
-            (λ dimension. has_chart self.old beat.now dimension.chart ≡ true) beat.now.dimensions }
-        ensures ok { OnOk result
-            (self.new ≡ with_definitions self.old beat.now.charts beat.now.dimensions) }
-        ensures err { OnErr result (self.new ≡ self.old) }
-        ensures free { OnOk result (MayDefine self.old beat.now) }
-        ensures first { IfErr result (IsFirstRefused self.old beat.now) }
-
-        // What the error says of the beat as a whole, in whatever order its definitions stand.
-        ensures refused { IfErr result (IsReasonOf self.old beat.now) }
-        ensures few { IsWithin self.old }
+    /// Takes charts and then dimensions by their numbers, all of them or none: each may be taken behind those before
+    /// it. After an `Err` all is as before.
+    pub fn take_definitions(
+        &mut self,
+        charts: &[NumberedChart],
+        dimensions: &[NumberedDimension],
+    ) -> Result<(), AllocError>
+        requires charts { all_taken takes_chart with_chart self.old charts.now ≡ true }
+        requires dimensions { all_taken takes_dimension with_dimension
+            (with_charts self.old charts.now) dimensions.now ≡ true }
+        ensures taken { OnOk result
+            (self.new ≡ with_dimensions (with_charts self.old charts.now) dimensions.now) }
+        ensures unchanged { OnErr result (self.new ≡ self.old) }
     {
-        // To have read the fields tells the prover how much they hold at most.
-        let _ = &self.dimensions;
         let mut changes = Vec::new(self.alloc);
-        match defining::define(self, beat, &mut changes) {
+        match defining::define(self, charts, dimensions, &mut changes) {
             Ok(()) => Ok(()),
-            Err(fault) => {
+            Err(error) => {
                 defining::undo_all(self, changes);
-                Err(fault)
+                Err(error)
             }
         }
     }

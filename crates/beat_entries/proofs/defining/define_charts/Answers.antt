@@ -1,8 +1,8 @@
 use Rattle.std.proofs.Common.{sym, ◌∙◌}
 use Rattle.std.proofs.lemmas.Result.{err_from_is_err_and}
-use Rattle.beat_entries.specs.Next.{takes_chart, with_chart}
-use Rattle.beat_entries.proofs.DefiningLemmas.{charts-pushed}
-use Rattle.beat_entries.proofs.Steps.{steps-more, steps-stop}
+use Rattle.chart_registry.specs.Taking.{takes_chart, with_chart}
+use Rattle.chart_registry.proofs.TakenLemmas.{charts-pushed}
+use Rattle.chart_registry.proofs.Steps.{steps-more, steps-stop}
 use Rattle.beat_entries.proofs.defining.define_charts.Goals as goal
 
 pub loop-chart-preserved : goal.loop-chart-preserved

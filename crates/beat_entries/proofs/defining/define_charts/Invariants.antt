@@ -1,5 +1,5 @@
 use Rattle.std.proofs.Common.{◌≡◌, take, drop}
-use Rattle.beat_entries.specs.Next.{all_taken, takes_chart, with_chart, with_charts}
+use Rattle.chart_registry.specs.Taking.{all_taken, takes_chart, with_chart, with_charts}
 use Rattle.beat_entries.proofs.defining.define_charts.Given as goal
 
 abbrev pub invariant-loop-chart : goal.invariant-loop-chart

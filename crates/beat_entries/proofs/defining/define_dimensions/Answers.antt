@@ -1,8 +1,8 @@
 use Rattle.std.proofs.Common.{sym, ◌∙◌}
 use Rattle.std.proofs.lemmas.Result.{err_from_is_err_and}
-use Rattle.beat_entries.specs.Next.{takes_dimension, with_dimension}
-use Rattle.beat_entries.proofs.DefiningLemmas.{dimensions-pushed}
-use Rattle.beat_entries.proofs.Steps.{steps-more, steps-stop}
+use Rattle.chart_registry.specs.Taking.{takes_dimension, with_dimension}
+use Rattle.chart_registry.proofs.TakenLemmas.{dimensions-pushed}
+use Rattle.chart_registry.proofs.Steps.{steps-more, steps-stop}
 use Rattle.beat_entries.proofs.defining.define_dimensions.Goals as goal
 
 pub loop-dimension-preserved : goal.loop-dimension-preserved

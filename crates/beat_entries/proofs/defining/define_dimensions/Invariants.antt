@@ -1,5 +1,5 @@
 use Rattle.std.proofs.Common.{◌≡◌, take, drop}
-use Rattle.beat_entries.specs.Next.{all_taken, takes_dimension, with_dimension, with_dimensions}
+use Rattle.chart_registry.specs.Taking.{all_taken, takes_dimension, with_dimension, with_dimensions}
 use Rattle.beat_entries.proofs.defining.define_dimensions.Given as goal
 
 abbrev pub invariant-loop-dimension : goal.invariant-loop-dimension

@@ -1,8 +1,9 @@
 -- What is taken one after the other.
-use Rattle.std.proofs.Common.{◌≡◌, ℕ, ◌+◌, ◌<◌, ◌≤◌, Bool, true, false, ◌&&◌, nat_eq, List, [], ◌∷◌, ◌++◌, length, take, drop, get_or, Option, Some, refl, sym, ap, ◌∙◌}
+use Rattle.std.proofs.Common.{◌≡◌, ℕ, ◌+◌, ◌<◌, ◌≤◌, Bool, true, false, ◌&&◌, nat_eq, List, [], ◌∷◌, ◌++◌, length, take, drop, get_or, Option, Some, None, refl, sym, ap, ◌∙◌, true≢false}
+use Rattle.std.proofs.lemmas.Bool.{and_parts, eqb-true}
 use Rattle.std.proofs.lemmas.List.{drop_all, drop_more, take_more}
 use Rattle.chart_registry.proofs.Finding.{nat_eq_same, nat_eq_other}
-use Rattle.beat_entries.specs.Next.{all_taken, is_number}
+use Rattle.chart_registry.specs.Taking.{all_taken, is_number}
 
 pub and-no : (b : Bool) → (b && false) ≡ false
 and-no true = refl
@@ -10,6 +11,10 @@ and-no false = refl
 
 pub number-yes : (n m : ℕ) (found : Option ℕ) → found ≡ Some m → m ≡ n → is_number n found ≡ true
 number-yes n m found e same = ap (is_number n) e ∙ ap (nat_eq n) same ∙ nat_eq_same n
+
+pub number-is : (n : ℕ) (found : Option ℕ) → is_number n found ≡ true → found ≡ Some n
+number-is n None e = absurd (true≢false (sym e))
+number-is n (Some m) e = ap Some (sym (eqb-true n m e))
 
 pub number-no : (n m : ℕ) (found : Option ℕ) → found ≡ Some m → (m ≡ n → ⊥) → is_number n found ≡ false
 number-no n m found e other = ap (is_number n) e ∙ nat_eq_other n m (λ same. other (sym same))
@@ -29,6 +34,12 @@ module _ {S X : Type 0} (takes : S → X → Bool) (next : S → X → S) (first
       → all_taken takes next old (drop i xs) ≡ all_taken takes next first xs → all_taken takes next first xs ≡ false
   steps-stop i x old within at taken before =
       sym before ∙ ap (all_taken takes next old) (prefix xs i x within at) ∙ ap (λ (b : Bool). b && all_taken takes next (next old x) (drop (i + 1) xs)) taken
+
+  -- what comes next is taken where all is
+  pub steps-next : (i : ℕ) (x : X) (old : S) → i < length xs → get_or xs i x ≡ x
+      → all_taken takes next old (drop i xs) ≡ all_taken takes next first xs → all_taken takes next first xs ≡ true → takes old x ≡ true
+  steps-next i x old within at before all =
+      (and_parts (takes old x) (all_taken takes next (next old x) (drop (i + 1) xs)) (sym (ap (all_taken takes next old) (prefix xs i x within at)) ∙ before ∙ all)).0
 
   pub steps-all : (i : ℕ) (old : S) → length xs ≤ i → all_taken takes next old (drop i xs) ≡ all_taken takes next first xs → all_taken takes next first xs ≡ true
   steps-all i old all before = sym before ∙ ap (all_taken takes next old) (drop_all i xs all)
