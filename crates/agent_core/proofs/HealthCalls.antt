@@ -1,5 +1,5 @@
 -- A health text that an agent does not store: it is refused, or memory ran out before.
-use Rattle.std.proofs.Common.{◌≡◌, ℕ, List, Option, Some, None, Result, Err, refl, sym, ap, ◌∙◌, le_refl}
+use Rattle.std.proofs.Common.{◌≡◌, ℕ, List, Option, Some, None, refl, sym, ap, ◌∙◌, le_refl}
 use Rattle.std.proofs.lemmas.Option.{none-some}
 use Rattle.host_model.specs.Moments.{begins}
 use Rattle.host_model.specs.Seen.{Seen}

@@ -1,46 +1,38 @@
-ghost use Rattle.std.specs.Prelude.{◌≡◌, ◌<◌, ◌≤◌, ◌⊎◌, ◌∷◌, [], ℕ, List, None, true, false, IfOk, IfErr, IsErrOf, OnOk, OnErr};
-ghost use Rattle.host_model.specs.declared.file.File.{File as AFile};
-ghost use Rattle.host_model.specs.Past.{Event, IsDisk};
-ghost use Rattle.host_model.specs.Disks.{EveryDisk, reads_as};
-ghost use Rattle.host_model.specs.Cause.{HasCause};
+ghost use Rattle.std.specs.Prelude.{◌≡◌, ◌<◌, ◌≤◌, ◌⊎◌, ◌∷◌, ℕ, List, None, true, false, IfOk, IfErr, OnOk, OnErr};
+ghost use Rattle.host_model.specs.Past.{Event};
+ghost use Rattle.host_model.specs.Disks.{EveryDisk};
 ghost use Rattle.host_model.specs.Moments.{Throughout};
-ghost use Rattle.history.specs.History.{Beat as HistoryBeat, collected, health};
+ghost use Rattle.history.specs.declared.beat.OpenBeat.{OpenBeat as AnOpenBeat};
+ghost use Rattle.history.specs.History.{Beat as HistoryBeat, collected};
 ghost use Rattle.history.specs.Limits.{keeps_limits};
-ghost use Rattle.side_codec.specs.Size.{side_limit};
 ghost use Rattle.tier_settings.specs.declared.settings.Settings.{Settings as ASettings};
 ghost use Rattle.tier_settings.specs.Limits.{InLimits};
-ghost use Rattle.store_core.specs.disk.Holds.{OnlyOwn};
-ghost use Rattle.store_core.specs.disk.Shares.{share, IsWithin};
-ghost use Rattle.store_core.specs.Stands.{is_made, Stands};
 ghost use Rattle.agent_core.specs.Gaps.{side_share};
-ghost use Rattle.agent_core.specs.Notes.{IsDamaged};
 ghost use Rattle.beat_tiers.specs.State.{tier_floor};
 ghost use Rattle.store_core.specs.Counts.{raised};
-ghost use Rattle.store_core.specs.Damaged.{IsDamagedIn};
 ghost use Rattle.store_core.specs.Store.{is_due, IsReady, OpensAt};
 ghost use Rattle.store_core.specs.Stored.{Stored as AStored};
 ghost use Rattle.agent_core.specs.Answers.{floor_of_history};
 ghost use Rattle.agent_core.specs.Agent.{left_in};
 ghost use Rattle.alarm_core.specs.UpTo.{IsUpTo};
 ghost use Rattle.agent_core.specs.Alarms.{events_at, DefinesNothing, IsSteppingOf};
-ghost use Rattle.agent_core.specs.Calls.{Beats, Creates, Lines, Logs, Opens, ReadsAsBefore, SetsHealth};
+ghost use Rattle.agent_core.specs.Calls.{Beats, Creates, Lines, Logs, Opens, SetsHealth};
 ghost use Rattle.agent_core.specs.Fed.{IsFed};
-ghost use Rattle.agent_core.specs.Faults.{fault_after, HealthRefusedBy, IsCreating, IsOpening, IsUnreplayed, LeavesAll, RefusedBy, Reopens};
-ghost use Rattle.agent_core.specs.Health.{health_refusal};
-ghost use Rattle.agent_core.specs.Stands.{HoldsHistory, StandsForHealth, StandsForHistory, StandsForNew, StandsForOneOf};
+ghost use Rattle.agent_core.specs.Faults.{fault_after, IsUnreplayed};
+ghost use Rattle.agent_core.specs.Stands.{HoldsHistory, StandsForHistory};
 ghost use Rattle.agent_core.specs.Left.{AwaitsAlarms, IsLeftBy};
-ghost use Rattle.agent_core.specs.Notes.{notes_go_on, NotesGo};
+ghost use Rattle.agent_core.specs.Notes.{notes_go_on};
 ghost use Rattle.agent_core.specs.Replay.{HasReplayed, IsOpenedFor};
 ghost use Rattle.agent_core.specs.Roles.{copies};
-ghost use Rattle.agent_core.specs.Rules.{beat_refusal, HasLimits, IsOpenBeat};
+ghost use Rattle.agent_core.specs.Rules.{HasLimits, IsOpenBeat};
 ghost use Rattle.agent_core.specs.Steps.{IsOpenStep, Takes};
-ghost use Rattle.history.specs.Numbered.{numbered_beat};
 ghost use Rattle.history.specs.Registry.{same_chart, same_dimension};
 ghost use Rattle.history.specs.Regular.{AreApart};
-ghost use Rattle.beat_entries.specs.Rules.{content_refusal, with_beat};
+ghost use Rattle.beat_entries.specs.Rules.{with_beat};
+ghost use Rattle.beat_entries.specs.Taking.{IsJudged};
 ghost use Rattle.agent_core.specs.Bound.{GrowsWithin};
 ghost use Rattle.agent_core.specs.Keeping.{KeepsStore};
-ghost use Rattle.agent_core.specs.Kept.{Follows};
+ghost use Rattle.agent_core.specs.Kept.{Follows, IsJudgedAt};
 
 mod copies;
 mod questions;
@@ -111,7 +103,7 @@ fn raised(count: u64) -> u64
 }
 
 impl Agent {
-    ghost use Rattle.agent_core.specs.Agent.{id_of, AgentIsReady, Fits, HasLeft, IsAgentOf, IsNewAgent};
+    ghost use Rattle.agent_core.specs.Agent.{id_of, AgentIsReady, Fits, HasLeft, IsAgentOf};
 
     /// Makes the agent of a history without beats, and its database, where there is none.
     ///

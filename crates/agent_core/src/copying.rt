@@ -1,6 +1,6 @@
 //! What the message of a child defines, and what a store keeps of its beats.
 
-ghost use Rattle.std.specs.Prelude.{◌≡◌, [], ◌++◌, ◌<◌, ◌≤◌, ◌^◌, ℕ, true, length, map, filter_map, All, Some, IfOk, OnOk};
+ghost use Rattle.std.specs.Prelude.{◌≡◌, [], ◌++◌, ◌<◌, ◌≤◌, ◌^◌, true, length, map, filter_map, All, Some, IfOk, OnOk};
 ghost use Rattle.std.specs.List.{cons_option, AllByRecursion};
 ghost use Rattle.std.specs.List.Sorted.{IsNonDecreasingBy, IsPermutation};
 ghost use Rattle.history.specs.Limits.{chart_keeps_limits, dimension_keeps_limits};

@@ -1,6 +1,6 @@
 //! What is taken of the note of a kept beat.
 
-ghost use Rattle.std.specs.Prelude.{◌≡◌, ◌↔◌, ◌⊎◌, [], ◌∷◌, List, Some, None, is_none, true, false, IfOk, IfErr, OnOk, OnErr};
+ghost use Rattle.std.specs.Prelude.{◌≡◌, ◌↔◌, ◌⊎◌, [], List, Some, None, is_none, true, false, IfOk, IfErr, OnOk, OnErr};
 ghost use Rattle.history.specs.History.{Beat as HistoryBeat, last};
 ghost use Rattle.history.specs.Numbered.{IsThere};
 ghost use Rattle.history.specs.Registry.{same_chart, same_dimension};

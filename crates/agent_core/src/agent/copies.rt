@@ -1,6 +1,6 @@
 //! The calls by which an agent copies a child, and by which a parent copies it.
 
-ghost use Rattle.std.specs.Prelude.{◌≡◌, ◌⊎◌, ◌<◌, ◌≤◌, ◌+◌, ◌^◌, ℕ, [], List, length, None, false, true, IfOk, IfErr, IfSome, IsErrOf, OnOk, OnErr, if◌then◌else◌};
+ghost use Rattle.std.specs.Prelude.{◌≡◌, ◌<◌, ◌≤◌, ◌+◌, ◌^◌, ℕ, [], List, length, None, IfOk, IfErr, IfSome, IsErrOf, OnOk, OnErr};
 ghost use Rattle.host_model.specs.Past.{Event};
 ghost use Rattle.host_model.specs.Disks.{EveryDisk};
 ghost use Rattle.host_model.specs.Cause.{HasCause};
@@ -14,10 +14,10 @@ ghost use Rattle.link_frames.specs.declared.frame.Frame.TheVariants as frame;
 ghost use Rattle.link_frames.specs.DataForm.{IsData};
 ghost use Rattle.link_frames.specs.Frames.{HasSpelling};
 ghost use Rattle.agent_core.specs.Bound.{GrowsWithin};
-ghost use Rattle.agent_core.specs.Calls.{agent_adds, agent_verdict, AnswersAsk, TakesData};
+ghost use Rattle.agent_core.specs.Calls.{agent_verdict, AnswersAsk, TakesData};
 ghost use Rattle.agent_core.specs.Copies.{data_of_history};
-ghost use Rattle.agent_core.specs.Copying.{beats_of, copy_refusal, events_onto, refusal_by};
-ghost use Rattle.agent_core.specs.Faults.{fault_after, IsReading, IsSpending, LeavesAll, RefusedBy, Reopens};
+ghost use Rattle.agent_core.specs.Copying.{beats_of, copy_refusal, events_onto};
+ghost use Rattle.agent_core.specs.Faults.{fault_after, IsReading, IsSpending, LeavesAll, Reopens};
 ghost use Rattle.agent_core.specs.Gaps.{side_share};
 ghost use Rattle.agent_core.specs.Kept.{onto};
 ghost use Rattle.agent_core.specs.Stands.{StandsForPrefix};

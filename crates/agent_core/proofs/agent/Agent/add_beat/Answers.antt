@@ -1,4 +1,4 @@
-use Rattle.std.proofs.Common.{◌≡◌, ◌∷◌, ◌∙◌, inl, sym, ap, subst}
+use Rattle.std.proofs.Common.{◌∷◌, ◌∙◌, inl, sym, ap, subst}
 use Rattle.host_model.proofs.DiskLemmas.{disks_weaker}
 use Rattle.history.specs.History.{collected}
 use Rattle.history.specs.Numbered.{numbered_beat}

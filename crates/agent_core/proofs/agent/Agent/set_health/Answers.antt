@@ -1,4 +1,4 @@
-use Rattle.std.proofs.Common.{◌≡◌, ◌∷◌, ◌∙◌, ℕ, List, Option, Some, None, Err, ap, sym, subst, refl, rules}
+use Rattle.std.proofs.Common.{◌≡◌, ◌∷◌, ◌∙◌, List, Option, Some, None, ap, sym, subst, refl, rules}
 use Rattle.std.proofs.lemmas.Result.{IfOk-weaker}
 use Rattle.host_model.specs.Disks.{EveryDisk}
 use Rattle.host_model.specs.Moments.{Throughout}
@@ -11,14 +11,13 @@ use Rattle.store_core.specs.disk.Holds.{OnlyOwn}
 use Rattle.store_core.specs.Store.{StoreState}
 use Rattle.agent_core.specs.declared.fault.AgentFault.TheVariants.{Memory}
 use Rattle.agent_core.specs.declared.reply.Reply.{Reply}
-use Rattle.agent_core.specs.Agent.{left_in, AgentIsReady, AgentState, Fits, IsAgentOf}
+use Rattle.agent_core.specs.Agent.{AgentIsReady, AgentState, Fits, IsAgentOf}
 use Rattle.agent_core.specs.Alarms.{IsReadOf}
 use Rattle.agent_core.specs.Bound.{GrowsWithin}
 use Rattle.agent_core.specs.Calls.{SetsHealth}
 use Rattle.agent_core.specs.Faults.{fault_after, IsHealthRefusal}
 use Rattle.agent_core.specs.Health.{health_refusal}
-use Rattle.agent_core.specs.Left.{IsLeftBy}
-use Rattle.agent_core.specs.Stands.{HoldsHistory, StandsForHealth}
+use Rattle.agent_core.specs.Stands.{StandsForHealth}
 use Rattle.agent_core.proofs.BeatCalls.{unstored}
 use Rattle.agent_core.proofs.HealthCalls.{health-refused, health-short}
 use Rattle.agent_core.proofs.HealthLemmas.{read-accepted, read-short}

@@ -11,7 +11,7 @@ use Rattle.agent_core.specs.declared.fault.AgentFault.{AgentFault}
 use Rattle.agent_core.specs.declared.left.Role.TheVariants.{Copies}
 use Rattle.agent_core.specs.declared.reply.Reply.{Reply}
 use Rattle.agent_core.specs.Agent.{AgentState, IsAgentOf}
-use Rattle.agent_core.specs.Calls.{agent_adds, agent_verdict}
+use Rattle.agent_core.specs.Calls.{agent_verdict}
 use Rattle.agent_core.specs.Copying.{copy_refusal, events_onto, refusal_by}
 use Rattle.agent_core.specs.Faults.{fault_after}
 use Rattle.agent_core.specs.Kept.{onto}
