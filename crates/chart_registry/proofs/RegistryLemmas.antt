@@ -1,5 +1,5 @@
 -- What the kept charts and dimensions say of the registry that they stand for.
-use Rattle.std.proofs.Common.{◌≡◌, ℕ, zero, suc, ◌+◌, ◌<◌, ◌≤◌, Bool, true, false, ◌||◌, nat_eq, nat_le, List, [], ◌∷◌, length, map, set, get_or, slice_get, position, Option, Some, None, IfSome, is_some, All, refl, sym, ap, subst, ◌∙◌, arith, add-zero, if◌then◌else◌}
+use Rattle.std.proofs.Common.{◌≡◌, ℕ, zero, suc, ◌+◌, ◌<◌, Bool, true, false, ◌||◌, nat_eq, nat_le, List, [], ◌∷◌, length, map, set, get_or, slice_get, position, Option, Some, None, IfSome, is_some, refl, sym, ap, subst, ◌∙◌, arith, add-zero, if◌then◌else◌}
 use Rattle.std.specs.List.{list_any, count_by}
 use Rattle.std.specs.Option.{option_and_then, option_map, option_map_or}
 use Rattle.std.specs.Str.{bytes_eq}
@@ -14,12 +14,11 @@ use Rattle.history.specs.declared.fault.BlockFault.TheVariants as block
 use Rattle.history.specs.Put.{put}
 use Rattle.history.specs.Registry.{Registry as Definitions, is_chart, is_of, is_dimension, same_dimension, chart_of, series_of}
 use Rattle.history.specs.Refusal.{chart_refusal, dimension_refusal, dimensions_full}
-use Rattle.indexmap.specs.IndexMap.{values}
 use Rattle.chart_registry.specs.declared.charts.Chart.{Chart}
 use Rattle.chart_registry.specs.declared.dimensions.Dimension.{Dimension}
 use Rattle.chart_registry.specs.Defining.{nothing_open, chart_id}
 use Rattle.chart_registry.specs.Rows.{Row, Mark, row_of, mark_of, row_at, ids, belongs, is_mark, same_mark, series_in, marks, open_dims, redefined, AreKept}
-use Rattle.chart_registry.proofs.Places.{IsFirst, count_by-all_false, count_by-map, first-from_position, passes-first, position-map, position-within, find-position, list_any-position, position-all_false, put-present, get_or-map_any, option_map_or-slice_get}
+use Rattle.chart_registry.proofs.Places.{IsFirst, count_by-map, first-from_position, passes-first, position-map, position-within, find-position, list_any-position, position-all_false, put-present, get_or-map_any, option_map_or-slice_get}
 use Rattle.chart_registry.proofs.ChartsLemmas.{ids-defs}
 use Rattle.chart_registry.proofs.RowsLemmas.{apart}
 pub use Rattle.std.proofs.lemmas.Bool.{or_parts as or_false}

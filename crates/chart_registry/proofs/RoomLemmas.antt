@@ -1,6 +1,6 @@
 -- What the accepted lines of a text leave of definitions: the registry of the history so far has room for those
 -- of the open beat.
-use Rattle.std.proofs.Common.{◌≡◌, ℕ, ◌+◌, ◌≤◌, Bool, true, false, not, ◌&&◌, ◌||◌, nat_eq, nat_le, cond, inl, inr, List, [], ◌∷◌, length, Option, Some, None, is_some, refl, sym, ap, ◌∙◌, arith, true≢false, if◌then◌else◌}
+use Rattle.std.proofs.Common.{◌≡◌, ℕ, ◌+◌, ◌≤◌, Bool, true, false, not, ◌&&◌, ◌||◌, nat_eq, nat_le, List, [], ◌∷◌, length, Option, Some, None, is_some, refl, sym, ap, ◌∙◌, arith, true≢false, if◌then◌else◌}
 use Rattle.std.specs.List.{count_by, find, list_any, AllByRecursion}
 use Rattle.std.specs.Option.{option_map_or}
 use Rattle.std.proofs.lemmas.Bool.{eqb-true, leb-false}
@@ -13,17 +13,15 @@ use Rattle.history.specs.declared.fault.BlockFault.TheVariants as fault
 use Rattle.history.specs.declared.line.Line.{Line}
 use Rattle.history.specs.declared.line.Line.TheVariants as line
 use Rattle.history.specs.History.{Beat, registry_of}
-use Rattle.history.specs.Looking.{beat, charts, dimensions, last_chart, open_block, rows, with_grid}
+use Rattle.history.specs.Looking.{charts, dimensions, last_chart, open_block, rows, with_grid}
 use Rattle.history.specs.Put.{put, put_all}
 use Rattle.history.specs.Read.{history_at}
 use Rattle.history.specs.Refusal.{chart_now, chart_refusal, charts_full, dimension_refusal, dimensions_full, has_dimension, is_new_chart, is_new_dimension}
-use Rattle.history.specs.Registry.{Registry, is_chart, is_dimension, is_of, same_chart, same_dimension, with_definitions}
-use Rattle.history.specs.Regular.{AreApart}
-use Rattle.chart_registry.proofs.ApartLemmas.{apart-charts, chart-left, same-parts, turned}
+use Rattle.history.specs.Registry.{Registry, is_chart, is_dimension, same_chart, same_dimension, with_definitions}
+use Rattle.chart_registry.proofs.ApartLemmas.{same-parts}
 use Rattle.chart_registry.proofs.Applying.{all-put, has_chart-any, same_chart-alike}
-use Rattle.chart_registry.proofs.Finding.{found-all, found-passes, nat_eq_same, one_if}
+use Rattle.chart_registry.proofs.Finding.{found-all, found-passes, one_if}
 use Rattle.chart_registry.proofs.Growing.{same_dimension-alike}
-use Rattle.chart_registry.proofs.OpenLemmas.{chart-same, charts-apart}
 use Rattle.chart_registry.proofs.RegistryLemmas.{or_false}
 use Rattle.chart_registry.proofs.RowsLemmas.{same_text}
 use Rattle.chart_registry.specs.Accepted.{AreAccepted}

@@ -241,11 +241,7 @@ impl Registry {
             (chart_id self.now dimension.now.chart) dimension.now.def.id)) }
     {
         if dimension.series < self.dimensions() {
-            self.is_series_of(
-                dimension.series,
-                dimension.chart,
-                dimension.def.id.as_str(),
-            )
+            self.is_series_of(dimension.series, dimension.chart, dimension.def.id.as_str())
         } else {
             self.is_next_dimension(dimension)
         }

@@ -1,4 +1,4 @@
-use Rattle.std.proofs.Common.{◌≡◌, true, sym, ap, subst, ◌∙◌}
+use Rattle.std.proofs.Common.{◌≡◌, true, sym, subst}
 use Rattle.history.specs.Registry.{Registry as Definitions}
 use Rattle.chart_registry.specs.Taking.{all_taken, takes_dimension, with_dimension}
 use Rattle.chart_registry.proofs.defining.define.Goals as goal

@@ -1,4 +1,4 @@
-use Rattle.std.proofs.Common.{◌≡◌, Bool, List, ℕ, not, ◌&&◌, true, false, nat_eq, length, is_none, sym, ap, ◌∙◌}
+use Rattle.std.proofs.Common.{◌≡◌, Bool, not, ◌&&◌, true, false, nat_eq, length, is_none, sym, ap, ◌∙◌}
 use Rattle.std.proofs.lemmas.Bool.{eq-eqb, ne_eqb}
 use Rattle.history.specs.Refusal.{dimensions_full}
 use Rattle.history.specs.Registry.{series_of}

@@ -1,4 +1,4 @@
-use Rattle.std.proofs.Common.{List, ℕ, sym, ap, ◌∙◌}
+use Rattle.std.proofs.Common.{ap, ◌∙◌}
 use Rattle.std.specs.Str.{bytes_eq}
 use Rattle.chart_registry.proofs.TakenLemmas.{number-told}
 use Rattle.chart_registry.proofs.registry.Registry.is_number_of.Goals as goal
