@@ -3,9 +3,9 @@ use Rattle.std.proofs.Common.{◌≡◌, ℕ, Bool, true, false, List, [], ◌�
 use Rattle.std.specs.Fmt.{decimal}
 use Rattle.std.specs.List.{slice_index}
 use Rattle.history.specs.declared.fault.BlockFault.TheVariants as fault
-use Rattle.point_lines.specs.declared.refusal.Refusal.{Refusal}
-use Rattle.point_lines.specs.declared.refusal.Refusal.TheVariants as refusal
-use Rattle.point_lines.specs.Judged.{refusal_number}
+use Rattle.plugin_text.specs.declared.refusal.Refusal.{Refusal}
+use Rattle.plugin_text.specs.declared.refusal.Refusal.TheVariants as refusal
+use Rattle.plugin_text.specs.Refusal.{refusal_number}
 use Rattle.query_text.proofs.ReplyLemmas.{free-append, IsFree}
 use Rattle.link_session.specs.Keeps.{IsAckedUpTo}
 use Rattle.link_session.proofs.AckLemmas.{acked-one, decimal-free, has-first}

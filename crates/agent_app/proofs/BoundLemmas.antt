@@ -13,7 +13,7 @@ use Rattle.tier_settings.specs.declared.settings.Settings.{Settings}
 use Rattle.line_stream.specs.Chain.{Chain, begins as chain_begins, goes_on, pauses}
 use Rattle.line_stream.specs.Run.{Ended, at_line, at_pause, at_long_line, at_end as at_end_of, at_fault, at_limit, at_want}
 use Rattle.plugin_text.specs.Lines.{lines}
-use Rattle.point_lines.specs.declared.refusal.Refusal.{Refusal}
+use Rattle.plugin_text.specs.declared.refusal.Refusal.{Refusal}
 use Rattle.store_core.specs.disk.Shares.{share}
 use Rattle.store_core.specs.Store.{StoreState}
 use Rattle.store_core.proofs.DiskProofs.ShareLemmas.{within_disks}

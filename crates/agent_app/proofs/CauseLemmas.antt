@@ -4,8 +4,8 @@ use Rattle.host_model.specs.Cause.{HasCause}
 use Rattle.host_model.specs.Seen.{Seen}
 use Rattle.host_model.specs.declared.status.Status.{Status}
 use Rattle.host_model.specs.declared.status.Status.TheVariants.{Refused, Limit, ReadFault, TellFault, DiskFault}
-use Rattle.point_lines.specs.declared.refusal.Refusal.{Refusal}
-use Rattle.point_lines.specs.Judged.{refusal_number}
+use Rattle.plugin_text.specs.declared.refusal.Refusal.{Refusal}
+use Rattle.plugin_text.specs.Refusal.{refusal_number}
 use Rattle.agent_app.specs.Convert.{ending_status, is_limit, refusal_status}
 use Rattle.agent_app.specs.Reading.{Ending, Ends, GoesOn, RefusedAt}
 use Rattle.agent_app.specs.Running.{Counts}

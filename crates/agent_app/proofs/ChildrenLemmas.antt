@@ -9,7 +9,7 @@ use Rattle.host_model.specs.declared.status.Status.TheVariants as status
 use Rattle.host_model.specs.Past.{Event}
 use Rattle.host_model.specs.Spawner.{Child, Children}
 use Rattle.history.specs.History.{Beat, last}
-use Rattle.point_lines.specs.declared.refusal.Refusal.{Refusal}
+use Rattle.plugin_text.specs.declared.refusal.Refusal.{Refusal}
 use Rattle.tier_settings.specs.declared.settings.Settings.{Settings}
 use Rattle.line_stream.specs.Run.{input_limit}
 use Rattle.plugin_runner.specs.declared.fault.RunFault.{RunFault}

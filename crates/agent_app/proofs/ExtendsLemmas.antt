@@ -6,7 +6,7 @@ use Rattle.history.specs.History.{Beat, collected}
 use Rattle.history.specs.Looking.{beat}
 use Rattle.history.specs.Read.{history_at, is_disable}
 use Rattle.plugin_text.specs.Lines.{parts, fits}
-use Rattle.point_lines.specs.declared.refusal.Refusal.{Refusal}
+use Rattle.plugin_text.specs.declared.refusal.Refusal.{Refusal}
 use Rattle.tier_settings.specs.declared.settings.Settings.{Settings}
 use Rattle.agent_core.specs.Rules.{history_with}
 use Rattle.link_session.specs.Keeps.{Extends, no_more, one_more}

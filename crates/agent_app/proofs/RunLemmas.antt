@@ -12,7 +12,7 @@ use Rattle.history.specs.Read.{history_at}
 use Rattle.plugin_text.specs.Lines.{fits, lines, parts, rest, BeginsWithLines, HasNoLongLine}
 use Rattle.plugin_text.proofs.LongLemmas.{IsLongAfter-append}
 use Rattle.plugin_text.proofs.PartsLemmas.{parts_whole}
-use Rattle.point_lines.specs.declared.refusal.Refusal.{Refusal}
+use Rattle.plugin_text.specs.declared.refusal.Refusal.{Refusal}
 use Rattle.tier_settings.specs.declared.settings.Settings.{Settings}
 use Rattle.line_stream.specs.Chain.{Acts, Chain, begins, goes_on, pauses}
 use Rattle.line_stream.specs.Run.{input_limit, Ended, at_line, at_pause, at_long_line, at_end, at_fault, at_limit, at_want}

@@ -21,9 +21,9 @@ use Rattle.plugin_text.specs.declared.fault.LineFault.TheVariants as line_fault
 use Rattle.plugin_text.specs.Answer.{IsFaultFor}
 use Rattle.plugin_text.specs.Line.{line as line_of}
 use Rattle.plugin_text.specs.Lines.{fits, lines, parts, rest}
-use Rattle.point_lines.specs.declared.refusal.Refusal.{Refusal}
-use Rattle.point_lines.specs.declared.refusal.Refusal.TheVariants as refusal
-use Rattle.point_lines.specs.Judged.{refusal_number}
+use Rattle.plugin_text.specs.declared.refusal.Refusal.{Refusal}
+use Rattle.plugin_text.specs.declared.refusal.Refusal.TheVariants as refusal
+use Rattle.plugin_text.specs.Refusal.{refusal_number}
 use Rattle.point_lines.proofs.StepLemmas.{counts-at}
 use Rattle.collect_block.specs.declared.feed.Feed.{Feed}
 use Rattle.collect_block.specs.Feed.{Becomes, CountsFor, IsFeedOf}

@@ -8,7 +8,7 @@ use crate::sessions::session_status;
 use agent_core::{Agent, AgentFault};
 use host_model::{Host, Link, Status};
 use link_session::SessionFault;
-use point_lines::Refusal;
+use plugin_text::Refusal;
 use std::alloc::Global;
 
 /// The status of a session that ended so. Why the database did not take what came is told.

@@ -4,7 +4,7 @@ ghost use Rattle.agent_app.specs.Convert.{is_limit, refusal_line, refusal_status
 
 use history::BlockFault;
 use host_model::Status;
-use point_lines::Refusal;
+use plugin_text::Refusal;
 use std::alloc::AllocError;
 use std::fmt::Write;
 

@@ -19,8 +19,7 @@ use collect_block::Feed;
 use history::Line;
 use host_model::{Failed, Host, Status};
 use line_stream::Taker;
-use plugin_text::{LineFault, read_line};
-use point_lines::Refusal;
+use plugin_text::{LineFault, Refusal, read_line};
 use std::alloc::Global;
 
 /// What is kept of a text whose beats are stored: the agent that has them, and the open beat.

@@ -6,7 +6,7 @@ use crate::refusals::refusal_status;
 use agent_core::AgentFault;
 use host_model::Status;
 use link_session::{PeerFault, SessionFault};
-use point_lines::Refusal;
+use plugin_text::Refusal;
 
 /// The number of a refusal between two agents.
 fn peer_kind(why: PeerFault) -> u32

@@ -1,6 +1,7 @@
 //! All alarms of a history: their states and their log.
 ghost use Rattle.std.specs.Prelude.{◌≡◌, map, IsTrue};
 ghost use Rattle.health_config.specs.Entity.{alarm_of};
+ghost use Rattle.alarm_events.specs.declared.log.TheConstants.{SHOWN};
 ghost use Rattle.alarm_core.specs.Charts.{AreTaken, wanted_on};
 
 use crate::beats::step_states;
@@ -321,7 +322,7 @@ impl Alarms {
         config: Config,
         kept: &KeptAlarms,
     ) -> Result<Alarms, AlarmFault>
-        requires events { length kept.now.events ≤ 1000 }
+        requires events { length kept.now.events ≤ SHOWN }
         requires text { text_of config ≡ kept.now.text }
         ensures held { IfOk result (λ alarms. held alarms
             ≡ held_from kept.now (map alarm_of (entities_of config)) registry.now) }
@@ -360,7 +361,7 @@ impl Alarms {
         kept: &KeptAlarms,
         registry: &Registry,
     ) -> Result<Alarms, AlarmFault>
-        requires { length kept.now.events ≤ 1000 }
+        requires { length kept.now.events ≤ SHOWN }
         ensures held { IfOk result (λ alarms. of_kept registry.now kept.now ≡ Some (held alarms)) }
         ensures up_to { IfOk result (λ alarms. IsUpTo alarms registry.now) }
         ensures refused { IfErr result (λ fault. (fault ≡ Memory)

@@ -1,5 +1,6 @@
 //! What an alarm of a chart sees.
 ghost use Rattle.std.specs.Prelude.{◌≡◌, ◌<◌, ◌≤◌, length};
+ghost use Rattle.history.specs.declared.limits.TheConstants.{MOST_DIMENSIONS_OF_CHART};
 ghost use Rattle.alarm_core.specs.Series.{series_of_chart};
 
 use crate::latest::Latest;
@@ -26,5 +27,5 @@ pub struct Scene<'a> {
     pub status: Status,
     ghost known: { chart < length registry.now.charts },
     ghost whole: { series.now ≡ series_of_chart registry.now chart },
-    ghost few: { length series.now ≤ 1024 },
+    ghost few: { length series.now ≤ MOST_DIMENSIONS_OF_CHART },
 }

@@ -1,5 +1,6 @@
 //! What there is at a beat.
 ghost use Rattle.std.specs.Prelude.{◌≡◌, ◌<◌, ◌≤◌, length};
+ghost use Rattle.history.specs.declared.limits.TheConstants.{MOST_DIMENSIONS_OF_CHART};
 ghost use Rattle.alarm_core.specs.Series.{series_of_chart, series_of_all};
 
 use crate::latest::Latest;
@@ -23,7 +24,7 @@ impl<'a> Sight<'a> {
     pub fn series_of(&self, chart: u32) -> &'a [u32]
         requires { chart < length self.now.registry.now.charts }
         ensures series { result.now ≡ series_of_chart self.now.registry.now chart }
-        ensures few { length result.now ≤ 1024 }
+        ensures few { length result.now ≤ MOST_DIMENSIONS_OF_CHART }
     {
         let _few = self.registry.dimensions_of(chart);
         self.series[chart as usize].as_slice()

@@ -1,9 +1,8 @@
 -- Lists in which each thing stands once. A registry has each dimension once, so each has its place as its number.
-use Rattle.std.proofs.Common.{◌≡◌, ℕ, zero, suc, ◌+◌, ◌<◌, Bool, true, false, ◌&&◌, ◌||◌, List, [], ◌∷◌, ◌++◌, length, drop, get_or, cond, slice_get, Some, refl, sym, ap, subst, ◌∙◌, true≢false, if◌then◌else◌}
+use Rattle.std.proofs.Common.{◌≡◌, ℕ, zero, suc, ◌+◌, Bool, true, false, ◌&&◌, ◌||◌, List, [], ◌∷◌, ◌++◌, drop, cond, slice_get, Some, refl, sym, ap, ◌∙◌, true≢false, if◌then◌else◌}
 use Rattle.std.specs.List.{filter, list_any}
 use Rattle.std.specs.Str.{bytes_eq}
 use Rattle.std.proofs.lemmas.Bool.{and_parts}
-use Rattle.std.proofs.lemmas.List.{drop_more}
 use Rattle.std.proofs.lemmas.List.Folds.{list_any-append}
 use Rattle.std.proofs.lemmas.Option.{same_Some, none-some}
 use Rattle.history.specs.declared.beat.OpenDim.{OpenDim}
@@ -121,12 +120,6 @@ pub apart-drop : {A : Type 0} (same : A → A → Bool) (xs : List A) (n : ℕ) 
 apart-drop same xs zero apart = apart
 apart-drop same [] (suc n) apart = tt
 apart-drop same (x ∷ xs) (suc n) apart = apart-drop same xs n apart.1
-
--- a thing is in no later place
-pub apart-at : {A : Type 0} (same : A → A → Bool) (xs : List A) (n : ℕ) (x : A) → n < length xs → get_or xs n x ≡ x → AreApart same xs → list_any (same x) (drop (n + 1) xs) ≡ false
-apart-at {A} same xs n x within at apart =
-    let here : AreApart same (x ∷ drop (n + 1) xs) = subst (AreApart same) (drop_more xs n x within ∙ ap (λ (y : A). y ∷ drop (n + 1) xs) at) (apart-drop same xs n apart) in
-    here.0
 
 -- ---- a series has one chart and one id
 one_dimension : (chart id chart' id' : List ℕ) (dimensions : List OpenDim) (n : ℕ) → IsFirst (is_dimension chart id) dimensions n → IsFirst (is_dimension chart' id') dimensions n → (chart ≡ chart') × (id ≡ id')

@@ -1,35 +1,19 @@
 -- Definitions that are taken one by one.
-use Rattle.std.proofs.Common.{◌≡◌, ℕ, ◌+◌, ◌<◌, Bool, true, false, cond, ◌||◌, List, [], ◌∷◌, ◌++◌, length, take, get_or, Some, is_some, refl, sym, ap, ◌∙◌, if◌then◌else◌}
+use Rattle.std.proofs.Common.{◌≡◌, ℕ, ◌+◌, Bool, true, false, cond, ◌||◌, List, [], ◌∷◌, ◌++◌, Some, is_some, refl, sym, ap, ◌∙◌, if◌then◌else◌}
 use Rattle.std.specs.List.{find, list_any, AllByRecursion}
 use Rattle.std.specs.Option.{option_map_or}
 use Rattle.std.specs.Str.{bytes_eq}
 use Rattle.std.proofs.lemmas.Slice.Eq.{bytes_eq-Decides}
-use Rattle.std.proofs.lemmas.List.{take_more}
 use Rattle.history.specs.declared.beat.OpenBeat.{OpenBeat}
-use Rattle.history.specs.declared.beat.OpenDim.{OpenDim}
 use Rattle.history.specs.declared.chart.ChartDef.{ChartDef}
 use Rattle.history.specs.Put.{put, put_all}
 use Rattle.history.specs.Refusal.{has_chart}
-use Rattle.history.specs.Registry.{Registry, is_chart, same_chart, same_dimension, with_definitions}
+use Rattle.history.specs.Registry.{Registry, is_chart, same_chart, with_definitions}
 
 module _ {A : Type 0} (same : A → A → Bool) where
   pub put_all-push : (xs ys : List A) (y : A) → put_all same xs (ys ++ y ∷ []) ≡ put same (put_all same xs ys) y
   put_all-push xs [] y = refl
   put_all-push xs (z ∷ ys) y = put_all-push (put same xs z) ys y
-
-pub charts-more : (registry : Registry) (charts : List ChartDef) (n : ℕ) (def : ChartDef) (made : Registry) → n < length charts → get_or charts n def ≡ def
-    → made ≡ with_definitions registry (take n charts) [] → with_definitions made (def ∷ []) [] ≡ with_definitions registry (take (n + 1) charts) []
-charts-more registry charts n def made within is made_is =
-    ap (λ (made : Registry). with_definitions made (def ∷ []) []) made_is
-    ∙ ap (λ (charts : List ChartDef). record { charts = charts; dimensions = registry.dimensions })
-    (sym (put_all-push same_chart registry.charts (take n charts) def) ∙ ap (put_all same_chart registry.charts) (ap (λ (def : ChartDef). take n charts ++ def ∷ []) (sym is) ∙ sym (take_more charts n def within)))
-
-pub dimensions-more : (registry : Registry) (dimensions : List OpenDim) (n : ℕ) (dimension : OpenDim) (made : Registry) → n < length dimensions → get_or dimensions n dimension ≡ dimension
-    → made ≡ with_definitions registry [] (take n dimensions) → with_definitions made [] (dimension ∷ []) ≡ with_definitions registry [] (take (n + 1) dimensions)
-dimensions-more registry dimensions n dimension made within is made_is =
-    ap (λ (made : Registry). with_definitions made [] (dimension ∷ [])) made_is
-    ∙ ap (λ (dimensions : List OpenDim). record { charts = registry.charts; dimensions = dimensions })
-    (sym (put_all-push same_dimension registry.dimensions (take n dimensions) dimension) ∙ ap (put_all same_dimension registry.dimensions) (ap (λ (dimension : OpenDim). take n dimensions ++ dimension ∷ []) (sym is) ∙ sym (take_more dimensions n dimension within)))
 
 -- ---- what a test finds in a list that has taken more, and what is true of all in it
 or-last : (x y : Bool) → (x || y) ≡ (y || x)

@@ -2,7 +2,7 @@
 use Rattle.std.proofs.Common.{◌≡◌, ℕ, ◌+◌, ◌<◌, ◌≤◌, Bool, true, false, ◌&&◌, nat_eq, List, [], ◌∷◌, ◌++◌, length, take, drop, get_or, Option, Some, None, refl, sym, ap, ◌∙◌, true≢false}
 use Rattle.std.proofs.lemmas.Bool.{and_parts, eqb-true}
 use Rattle.std.proofs.lemmas.List.{drop_all, drop_more, take_more}
-use Rattle.chart_registry.proofs.Finding.{nat_eq_same, nat_eq_other}
+use Rattle.chart_registry.proofs.Finding.{nat_eq_same}
 use Rattle.chart_registry.specs.Taking.{all_taken, is_number}
 
 pub and-no : (b : Bool) → (b && false) ≡ false
@@ -15,9 +15,6 @@ number-yes n m found e same = ap (is_number n) e ∙ ap (nat_eq n) same ∙ nat_
 pub number-is : (n : ℕ) (found : Option ℕ) → is_number n found ≡ true → found ≡ Some n
 number-is n None e = absurd (true≢false (sym e))
 number-is n (Some m) e = ap Some (sym (eqb-true n m e))
-
-pub number-no : (n m : ℕ) (found : Option ℕ) → found ≡ Some m → (m ≡ n → ⊥) → is_number n found ≡ false
-number-no n m found e other = ap (is_number n) e ∙ nat_eq_other n m (λ same. other (sym same))
 
 prefix : {X : Type 0} (xs : List X) (i : ℕ) (x : X) → i < length xs → get_or xs i x ≡ x → drop i xs ≡ x ∷ drop (i + 1) xs
 prefix xs i x within at = drop_more xs i x within ∙ ap (λ y. y ∷ drop (i + 1) xs) at

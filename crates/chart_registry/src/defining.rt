@@ -1,7 +1,7 @@
 //! Definitions by number that are taken one after the other, with what each of them changes, so that all can be taken
 //! back.
 
-ghost use Rattle.std.specs.Prelude.{◌≡◌, ℕ, ◌-◌, [], ◌∷◌, ◌++◌, length, true, OnOk, OnErr};
+ghost use Rattle.std.specs.Prelude.{◌≡◌, ◌-◌, [], ◌∷◌, ◌++◌, length, true, OnOk, OnErr};
 ghost use Rattle.history.specs.Registry.{Registry as Definitions};
 ghost use Rattle.chart_registry.specs.Changes.{IsChange, AreChanges};
 ghost use Rattle.chart_registry.specs.Taking.{all_taken, takes_chart, takes_dimension, with_chart, with_charts, with_dimension, with_dimensions};

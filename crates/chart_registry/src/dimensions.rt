@@ -1,4 +1,4 @@
-ghost use Rattle.std.specs.Prelude.{◌≡◌, ◌<◌, ◌∷◌, [], ◌++◌, length, slice_get, slice_set, Some, None, IfOk, OnOk, OnErr};
+ghost use Rattle.std.specs.Prelude.{◌≡◌, ◌<◌, ◌∷◌, [], ◌++◌, length, slice_get, Some, None, IfOk, OnOk, OnErr};
 ghost use Rattle.std.specs.Option.{option_map};
 ghost use Rattle.chart_registry.specs.Rows.{rows, row_at, marks, chart_defs, open_dims, redefined, series_in, AreById, AreKept, EntersSeries};
 ghost use Rattle.chart_registry.specs.Leaving.{LeavesSeries};

@@ -1,6 +1,6 @@
 //! What the registry says of the charts and dimensions that a beat defines.
 
-ghost use Rattle.std.specs.Prelude.{◌≡◌, ◌≤◌, ◌%◌, ◌==◌, ◌&&◌, true, false, not, nat_lt, length, count_by, find};
+ghost use Rattle.std.specs.Prelude.{◌≡◌, ◌≤◌, ◌%◌, ◌==◌, ◌&&◌, false, not, nat_lt, count_by, find};
 ghost use Rattle.std.specs.List.{list_any};
 ghost use Rattle.std.specs.Option.{option_map, option_map_or};
 ghost use Rattle.history.specs.Refusal.{is_new_chart, is_new_dimension, is_new_of};

@@ -37,7 +37,7 @@ pub use dimensions::{CopiedDimension, CopiedDimensionList};
 pub use entry::{Copied, Entry, Gap};
 pub use fault::EntryFault;
 pub use format::EntryFormat;
-pub use law::{entry_length_is_limited, entries_round_trip};
+pub use law::{entries_round_trip, entry_length_is_limited};
 pub use reading::read_entry;
 pub use words::{CopiedWord, CopiedWordList};
 pub use writing::{has_spelling, write_collected, write_entry};

@@ -3,8 +3,8 @@ ghost use Rattle.std.specs.Prelude.{[]};
 ghost use Rattle.point_lines.specs.Reader.{IsReaderOf};
 
 use history::BlockFault;
-use plugin_text::LineFault;
-use point_lines::{Reader, Refusal, Stop};
+use plugin_text::{LineFault, Refusal};
+use point_lines::{Reader, Stop};
 use std::alloc::{AllocError, Global};
 use std::process::Abort;
 use std::test::Fail;

@@ -5,6 +5,7 @@ use Rattle.replication.specs.declared.ask.Ask.{Ask}
 use Rattle.replication.specs.Bytes.{data_bytes}
 use Rattle.link_frames.specs.declared.frame.Frame.{Frame}
 use Rattle.link_frames.specs.declared.frame.Frame.TheVariants as frame
+use Rattle.link_frames.specs.declared.frame.TheConstants.{BODY_LIMIT}
 use Rattle.link_frames.specs.DataForm.{IsData}
 use Rattle.link_frames.specs.Fields.{FitsAsk, FitsMessage}
 
@@ -53,7 +54,7 @@ IsInForm (frame.Bye reason) = (reason ≡ done) ⊎ (reason ≡ wrong_child) ⊎
 
 -- the most bytes that the body of a frame may have
 abbrev pub body_limit : ℕ
-body_limit = 2 ^ 24
+body_limit = BODY_LIMIT
 
 -- the frames that have a spelling
 pub record HasSpelling (f : Frame) : Type 0 where

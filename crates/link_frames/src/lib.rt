@@ -31,7 +31,8 @@ mod writing;
 pub use fault::FrameFault;
 pub use frame::{BAD_FRAME, BODY_LIMIT, DONE, Frame, FrameList, WRONG_CHILD};
 pub use law::{
-    answers_are_frames, cut_changes_no_frames, frames_are_prefix_free, one_beat_fits_a_frame, pieces_change_no_frames,
+    answers_are_frames, cut_changes_no_frames, frames_are_prefix_free, one_beat_fits_a_frame,
+    pieces_change_no_frames,
 };
 pub use reader::FrameReader;
 pub use writing::write_frame;

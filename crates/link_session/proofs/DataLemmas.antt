@@ -5,7 +5,7 @@ use Rattle.host_model.specs.declared.file.File.{File}
 use Rattle.host_model.specs.Cause.{HasCause}
 use Rattle.host_model.specs.Disks.{EveryDisk}
 use Rattle.host_model.specs.Moments.{EveryCrash, Throughout}
-use Rattle.host_model.specs.Past.{of, told, Event, MayAdd, Told}
+use Rattle.host_model.specs.Past.{of, told, Event, MayAdd, TellsPrefix, Told}
 use Rattle.host_model.specs.Seen.{Seen}
 use Rattle.host_model.proofs.MomentLemmas.{at_end}
 use Rattle.history.specs.declared.fault.BlockFault.{BlockFault}
@@ -47,7 +47,7 @@ use Rattle.link_session.specs.declared.flow.Flow.TheVariants.{GoesOn}
 use Rattle.link_session.specs.Exchange.{ends, Course}
 use Rattle.link_session.specs.Keeps.{no_more, IsAckedUpTo, Keeps}
 use Rattle.link_session.specs.Parent.{copies, stores, stores_unless, takes_by, Parent}
-use Rattle.link_session.specs.Receiving.{is_for_data, is_spent_by, keeps_all, CopiesSo, HasGoneOn, HasStored, IsAgentsReceiving, IsCutShort, IsReceiving, OnlyFor, ParentTakes, SaysHave, StoresAt, StoresOnly, TellsPrefix}
+use Rattle.link_session.specs.Receiving.{is_for_data, is_spent_by, keeps_all, CopiesSo, HasGoneOn, HasStored, IsAgentsReceiving, IsCutShort, IsReceiving, OnlyFor, ParentTakes, SaysHave, StoresAt, StoresOnly}
 use Rattle.link_session.specs.Sending.{IsAgents}
 use Rattle.link_session.specs.Session.{is_refusal, result_of, says_all, ClosesSo, IsAgentEnd, IsRefusing, SaysThen}
 use Rattle.link_session.proofs.BoundLemmas.{have-runs}

@@ -3,7 +3,7 @@ use Rattle.std.proofs.Common.{◌≡◌, ℕ, Bool, true, false, List, [], ◌++
 use Rattle.std.proofs.lemmas.Bool.{eq-eqb, ne_eqb}
 use Rattle.host_model.specs.Cause.{HasCause}
 use Rattle.host_model.specs.Moments.{EveryCrash, Throughout}
-use Rattle.host_model.specs.Past.{told, Event}
+use Rattle.host_model.specs.Past.{told, Event, TellsPrefix}
 use Rattle.host_model.specs.Seen.{Seen}
 use Rattle.history.specs.History.{Beat, last}
 use Rattle.link_frames.specs.declared.frame.Frame.{Frame}
@@ -22,7 +22,7 @@ use Rattle.link_session.specs.declared.flow.Flow.TheVariants.{GoesOn, Done}
 use Rattle.link_session.specs.Exchange.{ends, leaves, refuses, Course}
 use Rattle.link_session.specs.Keeps.{Keeps}
 use Rattle.link_session.specs.Parent.{asks, copies, copies_other, hears_first, hears_next, waits, Parent}
-use Rattle.link_session.specs.Receiving.{keeps_all, CopiesSo, GoesSo, HasGoneOn, IsReceiving, OnlyFor, ParentTakes, StoresAt, StoresOnly, TellsPrefix}
+use Rattle.link_session.specs.Receiving.{keeps_all, CopiesSo, GoesSo, HasGoneOn, IsReceiving, OnlyFor, ParentTakes, StoresAt, StoresOnly}
 use Rattle.link_session.specs.Sending.{IsAgents}
 use Rattle.link_session.specs.Session.{result_of, DoesSo, IsRefusing, Leaves, SaysThen}
 use Rattle.link_session.proofs.LeavesLemmas.{leaves-nothing}

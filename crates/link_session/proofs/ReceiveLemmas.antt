@@ -7,7 +7,7 @@ use Rattle.std.proofs.Math.Seq.{take-append_seam, take-length}
 use Rattle.std.proofs.lemmas.List.{take-append-le}
 use Rattle.host_model.specs.Link.{Sends, SendsPrefix}
 use Rattle.host_model.specs.Moments.{begins, EveryCrash, Throughout}
-use Rattle.host_model.specs.Past.{told, Event, IsText}
+use Rattle.host_model.specs.Past.{told, Event, IsText, TellsPrefix}
 use Rattle.host_model.specs.Seen.{Seen}
 use Rattle.history.specs.History.{Beat}
 use Rattle.link_frames.specs.declared.frame.Frame.{Frame}
@@ -28,7 +28,7 @@ use Rattle.link_session.specs.Exchange.{both, broken_by, exchange, Course, Sessi
 use Rattle.link_session.specs.Incoming.{waiting, HasGiven}
 use Rattle.link_session.specs.Keeps.{no_more, Extends, IsAckedUpTo, Keeps, LeavesFiles}
 use Rattle.link_session.specs.Parent.{parent_begins, parent_does, IsToStore, Parent, StoresAtLast}
-use Rattle.link_session.specs.Receiving.{is_for_data, is_spent_by, keeps_all, AnswersStored, Copies, CopiesSo, HasGoneOn, HasStored, IsReceiving, OnlyFor, ParentTakes, ReceivesHistory, StoresAt, StoresOnly, TellsPrefix}
+use Rattle.link_session.specs.Receiving.{is_for_data, is_spent_by, keeps_all, AnswersStored, Copies, CopiesSo, HasGoneOn, HasStored, IsReceiving, OnlyFor, ParentTakes, ReceivesHistory, StoresAt, StoresOnly}
 use Rattle.link_session.specs.Sending.{spent_by, IsAgents}
 use Rattle.link_session.specs.Session.{result_of, says_all, HearsNoMore, IsSilentFor, LinkSeen, SaysPrefix, Talks}
 use Rattle.link_session.specs.Taking.{EndsOnlyAt, ParentEndsAt, ParentEndsBy}

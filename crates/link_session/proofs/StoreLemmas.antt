@@ -4,7 +4,7 @@ use Rattle.std.proofs.lemmas.List.{take-append-drop}
 use Rattle.host_model.specs.declared.file.File.{File}
 use Rattle.host_model.specs.Disks.{EveryDisk}
 use Rattle.host_model.specs.Moments.{Throughout, EveryCrash}
-use Rattle.host_model.specs.Past.{Event, Told, told, IsText, MayAdd}
+use Rattle.host_model.specs.Past.{Event, Told, told, IsText, MayAdd, TellsPrefix}
 use Rattle.host_model.proofs.CallLemmas.{may_have_moved, moved}
 use Rattle.host_model.proofs.DiskLemmas.{untold}
 use Rattle.host_model.proofs.MomentLemmas.{at_end, joined, weakened}
@@ -16,7 +16,7 @@ use Rattle.agent_core.specs.Kept.{onto}
 use Rattle.agent_core.specs.Stands.{StandsForPrefix, StandsForHistory}
 use Rattle.agent_core.proofs.KeptLemmas.{agent-told, stays}
 use Rattle.link_session.specs.Keeps.{no_more, Extends, IsAckedUpTo, Keeps}
-use Rattle.link_session.specs.Receiving.{HasGoneOn, HasStored, StoresAt, TellsPrefix}
+use Rattle.link_session.specs.Receiving.{HasGoneOn, HasStored, StoresAt}
 use Rattle.link_session.proofs.AckLemmas.{acked-more, acked-since, acked-weaker, closed-more, text-prefix}
 use Rattle.link_session.proofs.ExtendsLemmas.{extends-prefix, extends-further, extends-length, extends-onto}
 

@@ -6,7 +6,7 @@ use Rattle.host_model.specs.Cause.{HasCause}
 use Rattle.host_model.specs.Disks.{EveryDisk}
 use Rattle.host_model.specs.Link.{SendsPrefix}
 use Rattle.host_model.specs.Moments.{EveryCrash, Throughout}
-use Rattle.host_model.specs.Past.{of, told, Event, MayAdd, Told}
+use Rattle.host_model.specs.Past.{of, told, Event, MayAdd, TellsPrefix, Told}
 use Rattle.host_model.specs.Seen.{Seen}
 use Rattle.history.specs.History.{Beat}
 use Rattle.plugin_text.specs.Lines.{rest}
@@ -56,14 +56,6 @@ is_spent_by result = false
 abbrev pub is_for_data : SessionResult → Bool
 is_for_data (Err TellFault) = true
 is_for_data result = is_spent_by result
-
--- a prefix of this was told since, and all of it where `all` says so
-pub record TellsPrefix (all : Bool) (text : List ℕ) (old new : List Event) : Type 0 where
-  pub said : List ℕ
-  pub unsaid : List ℕ
-  pub whole : text ≡ said ++ unsaid
-  pub tells : told new ≡ told old ++ said
-  pub complete : all ≡ true → unsaid ≡ []
 
 -- at least this was told since, and at least this history is stored
 pub record HasStored (set : Settings) (h : List Beat) (start : List Event) (made : List ℕ) (new : List Event) : Type 0 where

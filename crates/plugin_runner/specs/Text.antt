@@ -9,6 +9,7 @@ use Rattle.history.specs.Read.{is_disable}
 use Rattle.plugin_text.specs.Line.{line as line_of}
 use Rattle.plugin_text.specs.Lines.{parts, fits}
 use Rattle.plugin_runner.specs.Looking.{last_moment, beats_begun, reading_at, charts, has_row}
+use Rattle.plugin_runner.specs.declared.moment.TheConstants.{TOO_LATE}
 
 -- what a text rests on: how many seconds lie between its moments, and the history's last moment
 pub record Origin : Type 0 where
@@ -31,7 +32,7 @@ said (bytes ∷ past) = with_line (meaning bytes) (said past)
 -- The moment of a beat: the larger of the last multiple of `every` up to the clock's reading and the first one
 -- above the last moment. One that is too late is the first number that no MOMENT line may have.
 abbrev pub moment : ℕ → ℕ → ℕ → ℕ
-moment every last reading = min (max (reading / every * every) ((last / every + 1) * every)) 4294967296
+moment every last reading = min (max (reading / every * every) ((last / every + 1) * every)) TOO_LATE
 
 -- ---- the lines that are put. The clock's readings are all that there will be, in their order.
 abbrev pub Step : Type 0

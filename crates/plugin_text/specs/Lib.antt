@@ -10,5 +10,6 @@ pub mod Line
 pub mod LineList
 pub mod Lines
 pub mod Number
+pub mod Refusal
 pub mod Splitter
 pub mod Text

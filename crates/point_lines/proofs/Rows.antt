@@ -4,8 +4,8 @@ use Rattle.fixed_num.specs.UnitsText.{units_text}
 use Rattle.history.specs.declared.fault.BlockFault.TheVariants.{MomentOrder}
 use Rattle.history.specs.declared.line.Line.TheVariants.{Moment, Query, Skipped}
 use Rattle.plugin_text.specs.declared.fault.LineFault.TheVariants.{BadNumber}
-use Rattle.point_lines.specs.declared.refusal.Refusal.TheVariants.{Line, Block}
-use Rattle.point_lines.specs.Judged.{refusal_number}
+use Rattle.plugin_text.specs.declared.refusal.Refusal.TheVariants.{Line, Block}
+use Rattle.plugin_text.specs.Refusal.{refusal_number}
 use Rattle.point_lines.specs.Told.{value_text, skipped}
 
 marks : (units : ℤ) → value_text (record { units = units; anomalous = true; reset = true }) ≡ units_text units ++ codes " A" ++ codes " R"

@@ -22,8 +22,8 @@ use Rattle.collect_block.specs.declared.step.Step.{Step}
 use Rattle.collect_block.specs.declared.step.Step.TheVariants as step
 use Rattle.collect_block.specs.Feed.{CountsAt, CountsFor, CountsPast, IsFeedOf, RefusedBy, step_of}
 use Rattle.point_lines.specs.declared.reader.Reader.{Reader}
-use Rattle.point_lines.specs.declared.refusal.Refusal.{Refusal}
-use Rattle.point_lines.specs.declared.refusal.Refusal.TheVariants as refusal
+use Rattle.plugin_text.specs.declared.refusal.Refusal.{Refusal}
+use Rattle.plugin_text.specs.declared.refusal.Refusal.TheVariants as refusal
 use Rattle.point_lines.specs.declared.stop.Stop.TheVariants as stop
 use Rattle.point_lines.specs.Judged.{every, history_of, placed, judged, judge}
 use Rattle.point_lines.specs.Reader.{IsReaderOf, Reads, StopsFor}

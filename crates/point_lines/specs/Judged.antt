@@ -2,15 +2,13 @@ use Rattle.std.specs.Prelude.{ℕ, List, [], Result, Ok, Err}
 use Rattle.std.specs.Option.{option_map_or}
 use Rattle.history.specs.declared.chart.TheConstants.{USUAL_UPDATE_EVERY}
 use Rattle.history.specs.declared.fault.BlockFault.{BlockFault}
-use Rattle.history.specs.declared.fault.BlockFault.TheVariants.{NoChart, NoDimension, NoBlock, OpenBlock, SecondBlock, OffGrid, MomentOrder, Unfinished, MixedRoles, GridChanged, TooManyCharts, TooManyDimensions, Memory}
 use Rattle.history.specs.declared.line.Line.{Line}
 use Rattle.history.specs.History.{Beat}
 use Rattle.history.specs.Read.{history_at, refusal_at}
 use Rattle.plugin_text.specs.declared.fault.LineFault.{LineFault}
-use Rattle.plugin_text.specs.Fault.{fault_number}
 use Rattle.plugin_text.specs.Line.{line}
-use Rattle.point_lines.specs.declared.refusal.Refusal.{Refusal}
-use Rattle.point_lines.specs.declared.refusal.Refusal.TheVariants as refusal
+use Rattle.plugin_text.specs.declared.refusal.Refusal.{Refusal}
+use Rattle.plugin_text.specs.declared.refusal.Refusal.TheVariants as refusal
 
 -- The lines of a text are those before, the latest first; no history comes before the text.
 
@@ -33,24 +31,3 @@ judged past (Err fault) = Err (refusal.Line fault)
 -- what the next line says, or why it is refused
 abbrev pub judge : List Line → List ℕ → Result Line Refusal
 judge past bytes = judged past (line bytes)
-
--- the number that a refusal by a line's place is told by; out of memory is none
-abbrev pub block_number : BlockFault → ℕ
-block_number NoChart = 21
-block_number NoDimension = 22
-block_number NoBlock = 23
-block_number OpenBlock = 24
-block_number SecondBlock = 25
-block_number OffGrid = 26
-block_number (MomentOrder last) = 27
-block_number Unfinished = 28
-block_number MixedRoles = 29
-block_number GridChanged = 31
-block_number TooManyCharts = 32
-block_number TooManyDimensions = 33
-block_number Memory = 0
-
--- the number that a refusal is told by
-abbrev pub refusal_number : Refusal → ℕ
-refusal_number (refusal.Line fault) = option_map_or (λ (number : ℕ). number) (fault_number fault) 0
-refusal_number (refusal.Block fault) = block_number fault

@@ -10,8 +10,8 @@ use Rattle.beat_points.specs.LastRows.{AreLastOf}
 use Rattle.chart_registry.specs.Accepted.{AreAccepted}
 use Rattle.collect_block.specs.Feed.{CountsFor, IsFeedOf}
 use Rattle.point_lines.specs.declared.reader.Reader.{Reader}
-use Rattle.point_lines.specs.declared.refusal.Refusal.{Refusal}
-use Rattle.point_lines.specs.declared.refusal.Refusal.TheVariants as refusal
+use Rattle.plugin_text.specs.declared.refusal.Refusal.{Refusal}
+use Rattle.plugin_text.specs.declared.refusal.Refusal.TheVariants as refusal
 use Rattle.point_lines.specs.declared.stop.Stop.{Stop}
 use Rattle.point_lines.specs.declared.stop.Stop.TheVariants as stop
 use Rattle.point_lines.specs.Judged.{every, history_of, judge}

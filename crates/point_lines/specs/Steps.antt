@@ -16,7 +16,7 @@ use Rattle.chart_registry.specs.Accepted.{AreAccepted}
 use Rattle.collect_block.specs.Feed.{CountsPast, IsFeedOf, step_of}
 use Rattle.collect_block.specs.declared.step.Step.{Step}
 use Rattle.point_lines.specs.declared.reader.Reader.{Reader}
-use Rattle.point_lines.specs.declared.refusal.Refusal.TheVariants as refusal
+use Rattle.plugin_text.specs.declared.refusal.Refusal.TheVariants as refusal
 use Rattle.point_lines.specs.declared.stop.Stop.{Stop}
 use Rattle.point_lines.specs.declared.stop.Stop.TheVariants as stop
 use Rattle.point_lines.specs.Judged.{every, history_of, placed}

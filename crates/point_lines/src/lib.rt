@@ -12,10 +12,8 @@
 #![tactic(auto)]
 
 mod reader;
-mod refusal;
 mod stop;
 mod telling;
 
 pub use reader::Reader;
-pub use refusal::Refusal;
 pub use stop::Stop;

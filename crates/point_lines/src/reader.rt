@@ -15,7 +15,6 @@ ghost use Rattle.point_lines.specs.Steps.{one_if, skips, Stepped, StepsOr, Takes
 ghost use Rattle.point_lines.specs.Closing.{HasTaken, TellsOf};
 ghost use Rattle.point_lines.specs.Told.{told_at_end};
 
-use crate::refusal::Refusal;
 use crate::stop::{Stop, beat_stop, block_stop, line_stop};
 use crate::telling::push_points;
 use beat_entries::{BeatFault, define_beat, judge_beat};
@@ -23,7 +22,7 @@ use beat_points::LastRows;
 use chart_registry::Registry;
 use collect_block::{Feed, Step};
 use history::{Line, NumberedBeat, OpenBeat};
-use plugin_text::read_line;
+use plugin_text::{Refusal, read_line};
 use std::alloc::{AllocError, Global};
 use std::fmt::Write;
 

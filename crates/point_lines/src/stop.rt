@@ -1,10 +1,9 @@
 ghost use Rattle.std.specs.Prelude.{◌≡◌};
 ghost use Rattle.point_lines.specs.Steps.{line_stop, block_stop, beat_stop};
 
-use crate::refusal::Refusal;
 use beat_entries::BeatFault;
 use history::BlockFault;
-use plugin_text::LineFault;
+use plugin_text::{LineFault, Refusal};
 
 /// Why a line was not read.
 #[derive(Clone, Copy, Debug, PartialEq, Eq)]

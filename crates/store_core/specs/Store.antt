@@ -18,6 +18,7 @@ use Rattle.tier_settings.specs.declared.settings.Settings.{Settings}
 use Rattle.store_core.specs.Tiers.{HasTiers}
 use Rattle.store_core.specs.Stands.{records_of, HasStored}
 use Rattle.store_core.specs.Stored.{Stored, count_of, has_sealed, is_numbered, stored_with, stored_with_all, tiers_of, HaveFollowed}
+use Rattle.store_core.specs.declared.store.TheConstants.{LONG_JOURNAL}
 
 pub record StoreState : Type 0 where
   pub files : FilesState
@@ -42,7 +43,7 @@ is_sealed store = is_numbered store.files.number && has_sealed store.body.last s
 
 -- a checkpoint is due: a segment was sealed since the last one, or the journal has 2^24 bytes, and there can be a later one
 abbrev pub is_due : StoreState → Bool
-is_due store = is_numbered store.files.number && (has_sealed store.body.last store.tiers || nat_le (2 ^ 24) store.files.journal.bytes)
+is_due store = is_numbered store.files.number && (has_sealed store.body.last store.tiers || nat_le LONG_JOURNAL store.files.journal.bytes)
 
 -- ---- a store of what is stored
 

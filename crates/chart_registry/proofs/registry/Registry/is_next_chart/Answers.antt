@@ -1,4 +1,4 @@
-use Rattle.std.proofs.Common.{◌≡◌, Bool, ◌&&◌, true, false, nat_eq, nat_lt, length, is_none, sym, ap, ◌∙◌, lt-ltb, le-ltb}
+use Rattle.std.proofs.Common.{◌≡◌, Bool, ◌&&◌, true, false, nat_eq, nat_lt, length, is_none, sym, ap, ◌∙◌, arith, lt-ltb, le-ltb}
 use Rattle.std.proofs.lemmas.Bool.{eq-eqb, ne_eqb}
 use Rattle.history.specs.Registry.{chart_of}
 use Rattle.chart_registry.proofs.Steps.{and-no}

@@ -1,8 +1,8 @@
 ghost use Rattle.std.specs.Prelude.{◌≡◌};
-ghost use Rattle.point_lines.specs.Judged.{block_number, refusal_number};
+ghost use Rattle.plugin_text.specs.Refusal.{block_number, refusal_number};
 
+use crate::fault::LineFault;
 use history::BlockFault;
-use plugin_text::LineFault;
 
 /// Why a text is refused.
 #[derive(Clone, Copy, Debug, PartialEq, Eq)]
