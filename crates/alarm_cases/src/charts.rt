@@ -3,7 +3,7 @@ ghost use Rattle.std.specs.Prelude.{◌<◌, IfOk};
 
 use chart_registry::Registry;
 use fixed_num::Text;
-use history::{Algorithm, ChartDef, ChartKind, DimDef};
+use history::{Algorithm, ChartDef, ChartKind, DimDef, NumberedChart, NumberedDimension};
 use std::alloc::{AllocError, Global};
 use std::test::Fail;
 
@@ -39,6 +39,35 @@ fn dim_def(alloc: Global, id: &str, name: &str, hidden: bool) -> Result<DimDef, 
 /// The id and the name of a dimension, and whether it is hidden.
 type Dimension = (&'static str, &'static str, bool);
 
+/// Takes a chart by the number that its id has or gets, which is given; a chart that may not be taken fails.
+fn define_chart(registry: &mut Registry, def: ChartDef) -> Result<u32, Fail> {
+    let number = registry
+        .chart_of(def.id.as_str())
+        .unwrap_or(registry.charts());
+    let chart = NumberedChart { number, def };
+    if !registry.takes_chart(&chart) {
+        return Err(Fail::from("a chart may not be taken"));
+    }
+    registry.take_chart(&chart)?;
+    Ok(number)
+}
+
+/// The same of a dimension.
+fn define_dimension(registry: &mut Registry, chart: u32, def: DimDef) -> Result<(), Fail> {
+    if chart >= registry.charts() {
+        return Err(Fail::from("no such chart"));
+    }
+    let series = registry
+        .series_of(chart, def.id.as_str())
+        .unwrap_or(registry.dimensions());
+    let dimension = NumberedDimension { series, chart, def };
+    if !registry.takes_dimension(&dimension) {
+        return Err(Fail::from("a dimension may not be taken"));
+    }
+    registry.take_dimension(&dimension)?;
+    Ok(())
+}
+
 /// Defines a chart and its dimensions.
 fn define(
     alloc: Global,
@@ -48,12 +77,9 @@ fn define(
     context: &str,
     dimensions: &[Dimension],
 ) -> Result<(), Fail> {
-    let number = registry.define_chart(&chart_def(alloc, id, name, context)?)?;
+    let number = define_chart(registry, chart_def(alloc, id, name, context)?)?;
     for (id, name, hidden) in dimensions {
-        let def = dim_def(alloc, id, name, *hidden)?;
-        if number < registry.charts() {
-            registry.define_dimension(number, &def)?;
-        }
+        define_dimension(registry, number, dim_def(alloc, id, name, *hidden)?)?;
     }
     Ok(())
 }

@@ -6,7 +6,7 @@ use alarm_core::{
 use chart_registry::Registry;
 use fixed_num::{ByteList, Frac, Text, Units};
 use health_config::Config;
-use history::{Algorithm, ChartDef, ChartKind, DimDef};
+use history::{Algorithm, ChartDef, ChartKind, DimDef, NumberedChart, NumberedDimension};
 use query_engine::{ListPoints, MomentList, Point, PointList, SeriesPointsList};
 use std::alloc::{AllocError, Global};
 use std::process::Abort;

@@ -1,7 +1,7 @@
 -- A beat that may be handed in and passed its tests, once the registry has its definitions.
-use Rattle.std.proofs.Common.{◌≡◌, ℕ, ◌+◌, ◌≤◌, Bool, true, false, not, ◌||◌, nat_lt, List, [], ◌∷◌, length, count_by, All, Some, IsSome, ◌∙◌}
-use Rattle.std.specs.List.{find, list_any, AllByRecursion}
-use Rattle.std.proofs.lemmas.Bool.{ltb-false, not-false}
+use Rattle.std.proofs.Common.{◌≡◌, ℕ, ◌+◌, ◌≤◌, Bool, true, false, not, ◌||◌, nat_lt, List, length, count_by, All, Some, IsSome, ◌∙◌}
+use Rattle.std.specs.List.{find, list_any}
+use Rattle.std.proofs.lemmas.Bool.{ltb-false}
 use Rattle.std.proofs.lemmas.List.Elements.{All-from_recursion, All-weaker}
 use Rattle.list_lemmas.proofs.Every.{none-fails}
 use Rattle.history.specs.declared.beat.OpenBeat.{OpenBeat}

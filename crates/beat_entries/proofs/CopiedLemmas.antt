@@ -55,7 +55,7 @@ module _ (r : Registry) (charts : List ChartDef) (dimensions : List OpenDim) whe
   abbrev without_rows : OpenBeat
   without_rows = record { charts = charts; dimensions = dimensions; rows = [] }
 
-  no-rows : (things : List ChartDef) (n : ℕ)
+  pub no-rows : (things : List ChartDef) (n : ℕ)
       → filter_map {Y = Row} (λ (place : ℕ × ChartDef). option_map (λ (row : OpenRow). record { chart = place.0; values = numbered_values r row }) (find (λ (row : OpenRow). bytes_eq place.1.id row.chart) []))
       (enumerate_from n things) ≡ []
   no-rows [] n = refl

@@ -1,21 +1,16 @@
 -- What a registry takes of a numbered beat.
-use Rattle.std.proofs.Common.{◌≡◌, ℕ, ◌+◌, ◌<◌, ◌≤◌, Bool, true, false, ◌&&◌, ltb, leb, List, [], ◌∷◌, length, map, take, get_or, slice_get, Option, Some, None, All, refl, sym, ap, ◌∙◌, true≢false}
+use Rattle.std.proofs.Common.{◌≡◌, ℕ, ◌<◌, ◌≤◌, Bool, true, false, ◌&&◌, ltb, leb, List, [], ◌∷◌, length, slice_get, Option, Some, None, All, refl, sym, ap, ◌∙◌, true≢false}
 use Rattle.std.specs.List.{list_all, AllByRecursion}
 use Rattle.std.specs.Option.{option_and_then}
 use Rattle.std.proofs.lemmas.Bool.{and_parts, leb-true, ltb-true}
-use Rattle.std.proofs.lemmas.List.{map-append}
 use Rattle.std.proofs.lemmas.List.Elements.{All-from_recursion}
 use Rattle.std.proofs.lemmas.Option.{slice_get_within}
-use Rattle.history.specs.declared.numbered.NumberedChart.{NumberedChart}
-use Rattle.history.specs.declared.numbered.NumberedDimension.{NumberedDimension}
 use Rattle.history.specs.declared.numbered.NumberedBeat.{NumberedBeat}
 use Rattle.history.specs.declared.row.Row.{Row}
 use Rattle.history.specs.declared.row.Value.{Value}
 use Rattle.history.specs.declared.beat.OpenDim.{OpenDim}
-use Rattle.history.specs.declared.chart.ChartDef.{ChartDef}
 use Rattle.history.specs.Numbered.{IsThere}
-use Rattle.history.specs.Put.{put_all}
-use Rattle.history.specs.Registry.{Registry, chart_of, same_chart, same_dimension}
+use Rattle.history.specs.Registry.{Registry, chart_of}
 use Rattle.chart_registry.proofs.Finding.{all-weaker}
 use Rattle.chart_registry.specs.Taking.{all_taken, is_number, takes_chart, takes_dimension, with_chart, with_charts, with_dimension, with_dimensions}
 use Rattle.beat_entries.specs.Next.{is_of_chart, takes_row, with_numbered, goes_on}

@@ -1,5 +1,5 @@
 -- The definitions of a numbered beat that may follow a history are taken by the history's registry.
-use Rattle.std.proofs.Common.{◌≡◌, ℕ, zero, suc, ◌+◌, ◌<◌, ◌≤◌, Bool, true, false, cond, ◌&&◌, ◌||◌, nat_eq, List, [], ◌∷◌, ◌++◌, map, length, position, slice_get, Option, Some, None, is_some, is_none, refl, sym, ap, ◌∙◌, arith, true≢false, lt-ltb, if◌then◌else◌}
+use Rattle.std.proofs.Common.{◌≡◌, ℕ, ◌+◌, ◌<◌, ◌≤◌, Bool, true, false, cond, ◌&&◌, ◌||◌, nat_eq, List, [], ◌∷◌, ◌++◌, map, length, position, slice_get, Option, Some, None, is_some, is_none, refl, sym, ap, ◌∙◌, arith, true≢false, lt-ltb, if◌then◌else◌}
 use Rattle.std.specs.List.{find, list_any, count_by, AllByRecursion}
 use Rattle.std.specs.Option.{option_and_then}
 use Rattle.std.proofs.lemmas.Bool.{lt-leb}

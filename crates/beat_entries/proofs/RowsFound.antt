@@ -1,5 +1,5 @@
 -- What the first rows of a beat came to.
-use Rattle.std.proofs.Common.{◌≡◌, ℕ, zero, suc, ◌+◌, ◌<◌, Bool, true, false, not, ◌||◌, List, [], ◌∷◌, ◌++◌, length, take, get_or, sym, ap, ◌∙◌, arith}
+use Rattle.std.proofs.Common.{◌≡◌, ℕ, ◌+◌, ◌<◌, Bool, true, false, not, ◌||◌, List, [], ◌∷◌, ◌++◌, length, take, get_or, sym, ap, ◌∙◌, arith}
 use Rattle.std.specs.List.{cons_option, filter_map, list_any}
 use Rattle.std.specs.Option.{option_map_or}
 use Rattle.std.proofs.lemmas.List.{take_more}
@@ -11,7 +11,7 @@ use Rattle.history.specs.Registry.{Registry}
 use Rattle.beat_entries.specs.declared.rows.FoundRows.{FoundRows}
 use Rattle.beat_entries.specs.Gathered.{row_at}
 use Rattle.beat_entries.specs.Rules.{changes_grid, row_lacks_dimension, with_beat}
-use Rattle.beat_entries.proofs.ComingLemmas.{or-none, or-yes}
+use Rattle.beat_entries.proofs.ComingLemmas.{or-none}
 use Rattle.beat_entries.proofs.Gathering.{gathered-more}
 
 pub any-more : {A : Type 0} (p : A → Bool) (xs : List A) (n : ℕ) (x : A) → n < length xs → get_or xs n x ≡ x
@@ -45,9 +45,3 @@ module _ (registry : Registry) (beat : OpenBeat) (moment : ℕ) (Can : Type 0) (
     off = λ same. off same ∙ ap (λ (b : Bool). b || is_off_row registry beat moment row) (found.off same) ∙ any-more (is_off_row registry beat moment) rows n row within at;
     items = λ can whole. gathered-more (row_at (with_beat registry beat)) rows n row old.rows.items.items new.rows.items.items within at (items can whole) (found.items can (before whole));
   }
-
--- a thing that passes
-pub any-there : {A : Type 0} (p : A → Bool) (xs : List A) (n : ℕ) (x : A) → n < length xs → get_or xs n x ≡ x → p x ≡ true → list_any p xs ≡ true
-any-there p [] n x within at passes = absurd (omega arith)
-any-there p (y ∷ xs) zero x within at passes = ap (λ (b : Bool). b || list_any p xs) (ap p at ∙ passes)
-any-there p (y ∷ xs) (suc n) x within at passes = ap (λ (b : Bool). p y || b) (any-there p xs n x (omega arith) at passes) ∙ or-yes (p y)

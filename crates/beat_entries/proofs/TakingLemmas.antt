@@ -1,5 +1,5 @@
 -- A beat by number before its definitions are there.
-use Rattle.std.proofs.Common.{◌≡◌, ℕ, ◌≤◌, true, false, not, nat_eq, length, Option, Some, is_some, sym, ap, subst, ◌∙◌}
+use Rattle.std.proofs.Common.{◌≡◌, ℕ, ◌≤◌, true, false, not, nat_eq, length, Option, Some, None, Result, Ok, Err, IfOk, OnOk, is_some, sym, ap, subst, ◌∙◌}
 use Rattle.std.specs.List.{count_by, find}
 use Rattle.std.specs.Option.{option_map_or}
 use Rattle.std.proofs.lemmas.Bool.{eqb-true, not-false}
@@ -18,7 +18,8 @@ use Rattle.chart_registry.proofs.Finding.{all-weaker}
 use Rattle.beat_entries.specs.declared.coming.Coming.{Coming}
 use Rattle.beat_entries.specs.Coming.{CanNumber}
 use Rattle.beat_entries.specs.Defined.{IsDefinedIn}
-use Rattle.beat_entries.specs.Rules.{changes_grid_of, with_beat, IsOpenBeat}
+use Rattle.beat_entries.specs.Rules.{changes_grid_of, content_refusal, with_beat, IsOpenBeat}
+use Rattle.beat_entries.specs.Taking.{IsJudged}
 use Rattle.beat_entries.proofs.AfterLemmas.{defined-after, regular-after}
 use Rattle.beat_entries.proofs.DefiningLemmas.{rows-there}
 use Rattle.beat_entries.proofs.EntryLemmas.{entry-canonical}
@@ -104,3 +105,18 @@ module _ (registry : Registry) (beat : OpenBeat) (is_open : IsOpenBeat beat) (ch
 
   pub tested-taken : with_dimensions (with_charts registry (numbered_charts taken beat)) (numbered_dimensions taken beat) ≡ taken
   tested-taken = sym (taken-is registry beat charts dimensions tested-defined)
+
+-- ---- a beat that was judged
+pub judged-is : (registry : Registry) (moment : ℕ) (beat : OpenBeat) (numbered : NumberedBeat) → IsOpenBeat beat → content_refusal registry moment beat ≡ None
+    → numbered ≡ numbered_beat (with_beat registry beat) moment beat → IsJudged registry beat numbered
+judged-is registry moment beat numbered is_open free is =
+    let same : numbered.moment ≡ moment = ap (λ (numbered : NumberedBeat). numbered.moment) is in record {
+      is_open = is_open;
+      content = ap (λ (moment : ℕ). content_refusal registry moment beat) same ∙ free;
+      numbered_is = is ∙ ap (λ (moment : ℕ). numbered_beat (with_beat registry beat) moment beat) (sym same);
+    }
+
+pub judged-either : {E : Type 0} (registry : Registry) (moment : ℕ) (beat : OpenBeat) (result : Result NumberedBeat E) → IsOpenBeat beat → OnOk result (content_refusal registry moment beat ≡ None)
+    → IfOk result (λ numbered. numbered ≡ numbered_beat (with_beat registry beat) moment beat) → IfOk result (IsJudged registry beat)
+judged-either registry moment beat (Ok numbered) is_open free is = judged-is registry moment beat numbered is_open free is
+judged-either registry moment beat (Err fault) is_open free is = tt

@@ -16,9 +16,8 @@ use Rattle.chart_registry.proofs.Growing.{same_dimension-alike}
 use Rattle.chart_registry.proofs.FewLemmas.{count-cons, few-closed, HaveFew}
 use Rattle.beat_entries.proofs.Slots.{none-all}
 use Rattle.chart_registry.proofs.RoomLemmas.{length-put_all}
-use Rattle.history.specs.Regular.{AreApart}
 use Rattle.chart_registry.proofs.AcceptedLemmas.{passed}
-use Rattle.beat_entries.specs.Rules.{beat_refusal, changes_grid, changes_grid_of, dimensions_with, fills_chart, is_too_long, lacks_chart, lacks_dimension, too_many_charts, too_many_dimensions}
+use Rattle.beat_entries.specs.Rules.{beat_refusal, changes_grid, dimensions_with, fills_chart, is_too_long, lacks_chart, lacks_dimension, too_many_charts, too_many_dimensions}
 
 -- ---- a registry with definitions that it has room for
 pub few-charts : (registry : Registry) (beat : OpenBeat) → too_many_charts registry beat ≡ false → length (with_definitions registry beat.charts beat.dimensions).charts ≤ 4096

@@ -79,11 +79,7 @@ fn sort_charts(mut charts: Vec<NumberedChart>) -> Result<ChartList, AllocError>
 }
 
 /// The charts that a beat defines, in the order of their numbers.
-fn charts(
-    alloc: Global,
-    coming: &Coming,
-    beat: &OpenBeat,
-) -> Result<ChartList, AllocError>
+fn charts(alloc: Global, coming: &Coming, beat: &OpenBeat) -> Result<ChartList, AllocError>
     requires can { CanNumber coming.now }
     requires defined { IsDefinedIn
         (with_beat coming.now.registry.now coming.now.beat.now) beat.now }
@@ -168,11 +164,7 @@ fn sort_dimensions(mut dimensions: Vec<NumberedDimension>) -> Result<DimensionLi
 }
 
 /// The dimensions that a beat defines, in the order of their numbers.
-fn dimensions(
-    alloc: Global,
-    coming: &Coming,
-    beat: &OpenBeat,
-) -> Result<DimensionList, AllocError>
+fn dimensions(alloc: Global, coming: &Coming, beat: &OpenBeat) -> Result<DimensionList, AllocError>
     requires can { CanNumber coming.now }
     requires defined { IsDefinedIn
         (with_beat coming.now.registry.now coming.now.beat.now) beat.now }

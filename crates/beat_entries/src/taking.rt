@@ -98,6 +98,7 @@ pub fn judge_beat(
     ensures judged { let reason = beat_refusal registry.now copies last moment beat.now in
         MatchResult result (λ _. reason ≡ None) (IsFaultOf reason) }
     ensures content { OnOk result (content_refusal registry.now moment beat.now ≡ None) }
+    ensures definable { IfOk result (IsJudged registry.now beat.now) }
 {
     if copies {
         return Err(BeatFault::Refused(BlockFault::MixedRoles));

@@ -260,16 +260,17 @@ collected-taken registry h made beat old new takes lasts same regular is = recor
         ∙ ap (λ (value : Option Value). noted made.moment value (option_map last_of (last_set h chart id))) (value-is chart id n d.dimension d.at d.chart_is d.id_is)
         ∙ noted-set made.moment n (value_of beat chart id) (last_set h chart id)
 
-pub copied-taken : (registry : Registry) (h : List Beat) (moment : ℕ) (copy : Copy) (rows : List Row) (old new : List (Option Last))
-    → Takes moment (rows_values rows) (old ++ replicate (length registry.dimensions - length old) None) new
-    → AreLastOf old h → registry ≡ registry_of (copied copy ∷ h) → rows ≡ [] → AreLastOf new (copied copy ∷ h)
-copied-taken registry h moment copy rows old new takes lasts same none = record {
+-- a copied beat sets no row
+pub copied-taken : (registry : Registry) (h : List Beat) (copy : Copy) (old new : List (Option Last)) → new ≡ old ++ replicate (length registry.dimensions - length old) None
+    → AreLastOf old h → registry ≡ registry_of (copied copy ∷ h) → AreLastOf new (copied copy ∷ h)
+copied-taken registry h copy old new grown lasts same = record {
   rows = λ chart id. ap (λ (r : Registry). last_in new (series_of r chart id)) (sym same) ∙ by chart id (series_of registry chart id) refl;
-  within = subst (λ (r : Registry). length new ≤ length r.dimensions) same (within-registry registry h copy.charts copy.dimensions moment (rows_values rows) old new takes lasts same);
+  within = subst (λ (r : Registry). length new ≤ length r.dimensions) same (within-registry registry h copy.charts copy.dimensions copy.moment [] old new takes lasts same);
 }
   where
+    takes : Takes copy.moment [] (old ++ replicate (length registry.dimensions - length old) None) new
+    takes = record { rows_are = λ series. ap (λ (rows : List (Option Last)). get_or rows series None) grown; length_is = ap length grown }
+
     by : (chart id : List ℕ) (series : Option ℕ) → series_of registry chart id ≡ series → last_in new series ≡ option_map last_of (last_set h chart id)
-    by chart id None absent = sym (ap (last_in old) absent) ∙ before-is registry h copy.charts copy.dimensions moment (rows_values rows) old new takes lasts same chart id
-    by chart id (Some n) there =
-        series-taken registry h copy.charts copy.dimensions moment (rows_values rows) old new takes lasts same chart id n there
-        ∙ ap (λ (rs : List Row). noted moment (last_value n (rows_values rs)) (option_map last_of (last_set h chart id))) none
+    by chart id None absent = sym (ap (last_in old) absent) ∙ before-is registry h copy.charts copy.dimensions copy.moment [] old new takes lasts same chart id
+    by chart id (Some n) there = series-taken registry h copy.charts copy.dimensions copy.moment [] old new takes lasts same chart id n there

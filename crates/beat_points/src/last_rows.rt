@@ -86,16 +86,15 @@ impl LastRows {
         giving::sorted(points)
     }
 
-    /// Makes room for the series of the registry, which has the definitions of a copied beat: that has no rows. After an
-    /// `Err` all is as before.
+    /// Makes room for the series of a registry, as a copied beat wants it, which has no rows. After an `Err` all is as
+    /// before.
     pub fn make_room(&mut self, registry: &Registry) -> Result<(), AllocError>
-        ensures copied { OnOk result ((h : List Beat) (copy : Copy) → AreLastOf self.old h
+        ensures ok { OnOk result ((h : List Beat) (copy : Copy) → AreLastOf self.old h
             → registry.now ≡ registry_of (copied copy ∷ h)
             → AreLastOf self.new (copied copy ∷ h)) }
         ensures err { OnErr result (self.new ≡ self.old) }
     {
-        taking::make_room(&mut self.rows, registry.dimensions() as usize)?;
-        Ok(())
+        taking::make_room(&mut self.rows, registry.dimensions() as usize)
     }
 
     /// Takes the rows of a beat, with its definitions in the registry. After an `Err` all is as before.

@@ -3,7 +3,7 @@ ghost use Rattle.std.specs.Prelude.{◌≡◌, IfOk};
 
 use chart_registry::Registry;
 use fixed_num::{Text, Units};
-use history::{Algorithm, ChartDef, ChartKind, DimDef};
+use history::{Algorithm, ChartDef, ChartKind, DimDef, NumberedChart, NumberedDimension};
 use query_engine::{CellList, Table, TableRow, TableRowList};
 use query_text::{QueryFault, read_query, write_fault, write_table};
 use std::alloc::{AllocError, Global};
@@ -47,11 +47,40 @@ fn dim_def(alloc: Global, id: &str, name: &str, hidden: bool) -> Result<DimDef, 
     })
 }
 
+/// Takes a chart by the number that its id has or gets, which is given; a chart that may not be taken fails.
+fn define_chart(registry: &mut Registry, def: ChartDef) -> Result<u32, Fail> {
+    let number = registry
+        .chart_of(def.id.as_str())
+        .unwrap_or(registry.charts());
+    let chart = NumberedChart { number, def };
+    if !registry.takes_chart(&chart) {
+        return Err(Fail::from("a chart may not be taken"));
+    }
+    registry.take_chart(&chart)?;
+    Ok(number)
+}
+
+/// The same of a dimension.
+fn define_dimension(registry: &mut Registry, chart: u32, def: DimDef) -> Result<(), Fail> {
+    if chart >= registry.charts() {
+        return Err(Fail::from("no such chart"));
+    }
+    let series = registry
+        .series_of(chart, def.id.as_str())
+        .unwrap_or(registry.dimensions());
+    let dimension = NumberedDimension { series, chart, def };
+    if !registry.takes_dimension(&dimension) {
+        return Err(Fail::from("a dimension may not be taken"));
+    }
+    registry.take_dimension(&dimension)?;
+    Ok(())
+}
+
 fn registry(alloc: Global) -> Result<Registry, Fail> {
     let mut registry = Registry::new(alloc);
     for (chart, id, name, hidden) in DIMENSIONS {
-        let chart = registry.define_chart(&chart_def(alloc, chart)?)?;
-        registry.define_dimension(chart, &dim_def(alloc, id, name, *hidden)?)?;
+        let chart = define_chart(&mut registry, chart_def(alloc, chart)?)?;
+        define_dimension(&mut registry, chart, dim_def(alloc, id, name, *hidden)?)?;
     }
     Ok(registry)
 }

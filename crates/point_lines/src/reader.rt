@@ -69,7 +69,7 @@ fn take_beat(
     ensures there { IfOk result (IsThere registry.new) }
 {
     let numbered = judge_beat(alloc, registry, false, last, moment, beat)?;
-    match define_beat(registry, moment, beat, &numbered) {
+    match define_beat(registry, &numbered) {
         Ok(()) => Ok(numbered),
         Err(_) => Err(BeatFault::Memory),
     }

@@ -4,7 +4,10 @@ ghost use Rattle.std.specs.Prelude.{◌≡◌, ◌∷◌, [], IfOk};
 use beat_points::{LastRows, SeriesWord, SeriesWordList};
 use chart_registry::Registry;
 use fixed_num::{ListOf, Text};
-use history::{Algorithm, ChartDef, ChartKind, DimDef, NumberedBeat, Row, Value};
+use history::{
+    Algorithm, ChartDef, ChartKind, DimDef, NumberedBeat, NumberedChart, NumberedDimension, Row,
+    Value,
+};
 use std::alloc::{AllocError, Global};
 use std::process::Abort;
 use std::test::Fail;
@@ -40,10 +43,38 @@ fn dim_def(alloc: Global, id: &str, multiplier: i32) -> Result<DimDef, AllocErro
     })
 }
 
-fn define(alloc: Global, registry: &mut Registry, id: &str, multiplier: i32) -> Result<(), Fail> {
-    let chart = registry.define_chart(&chart_def(alloc)?)?;
-    registry.define_dimension(chart, &dim_def(alloc, id, multiplier)?)?;
+/// Takes a chart by the number that its id has or gets, which is given; a chart that may not be taken fails.
+fn define_chart(registry: &mut Registry, def: ChartDef) -> Result<u32, Fail> {
+    let number = registry
+        .chart_of(def.id.as_str())
+        .unwrap_or(registry.charts());
+    let chart = NumberedChart { number, def };
+    if !registry.takes_chart(&chart) {
+        return Err(Fail::from("a chart may not be taken"));
+    }
+    registry.take_chart(&chart)?;
+    Ok(number)
+}
+
+/// The same of a dimension.
+fn define_dimension(registry: &mut Registry, chart: u32, def: DimDef) -> Result<(), Fail> {
+    if chart >= registry.charts() {
+        return Err(Fail::from("no such chart"));
+    }
+    let series = registry
+        .series_of(chart, def.id.as_str())
+        .unwrap_or(registry.dimensions());
+    let dimension = NumberedDimension { series, chart, def };
+    if !registry.takes_dimension(&dimension) {
+        return Err(Fail::from("a dimension may not be taken"));
+    }
+    registry.take_dimension(&dimension)?;
     Ok(())
+}
+
+fn define(alloc: Global, registry: &mut Registry, id: &str, multiplier: i32) -> Result<(), Fail> {
+    let chart = define_chart(registry, chart_def(alloc)?)?;
+    define_dimension(registry, chart, dim_def(alloc, id, multiplier)?)
 }
 
 fn beat_of(alloc: Global, moment: u32, chart: u32, value: Value) -> Result<NumberedBeat, AllocError>

@@ -66,13 +66,16 @@ fn copied_entry(alloc: Global, bytes: &[u8]) -> Result<Copied, Fail> {
     }
 }
 
-/// What a copied entry defines, or why it is not defined.
+/// What a registry has first once a copied entry is defined, or why it is not defined.
 fn definitions(alloc: Global, registry: &mut Registry, bytes: &[u8]) -> Result<String, Fail> {
     let entry = copied_entry(alloc, bytes)?;
-    match define_copied(alloc, registry, &entry) {
-        Ok(beat) => Ok(format!(in alloc; "{:?} {:?}", beat.charts, beat.dimensions)?),
-        Err(refusal) => Ok(format!(in alloc; "{refusal:?}")?),
+    if let Err(refusal) = define_copied(alloc, registry, &entry) {
+        return Ok(format!(in alloc; "{refusal:?}")?);
     }
+    if registry.charts() == 0 || registry.dimensions() == 0 {
+        return Err(Fail::from("nothing was defined"));
+    }
+    Ok(format!(in alloc; "{:?} def: {:?}", registry.chart(0), registry.dimension(0))?)
 }
 
 #[test]

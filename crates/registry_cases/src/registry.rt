@@ -1,20 +1,15 @@
 //! The tests of `chart_registry`: the numbers of charts and dimensions, and its limits.
 
-ghost use Rattle.std.specs.Prelude.{◌≡◌, ◌<◌, IfOk};
-
-use chart_registry::{Registry, RegistryFault};
-use fixed_num::{ListOf, Text};
+use chart_registry::Registry;
+use fixed_num::Text;
 use history::{
     Algorithm, ChartDef, ChartKind, DimDef, MOST_CHARTS, MOST_DIMENSIONS, MOST_DIMENSIONS_OF_CHART,
-    OpenBeat,
+    NumberedChart, NumberedDimension,
 };
 use std::alloc::{AllocError, Global};
-use std::process::Abort;
 use std::test::Fail;
 
-fn chart_def(alloc: Global, id: &str, update_every: u32) -> Result<ChartDef, AllocError>
-    ensures { IfOk result (λ def. def.update_every ≡ update_every) }
-{
+fn chart_def(alloc: Global, id: &str, update_every: u32) -> Result<ChartDef, AllocError> {
     Ok(ChartDef {
         id: Text::from_str(alloc, id)?,
         name: Text::new(alloc),
@@ -41,34 +36,45 @@ fn dim_def(alloc: Global, id: &str, multiplier: i32) -> Result<DimDef, AllocErro
     })
 }
 
-// The answers of calls whose conditions hold, and of the others nothing.
-
-fn define_chart(
+/// Takes a chart by this number, if it may be taken.
+fn take_chart_at(
     alloc: Global,
     registry: &mut Registry,
+    number: u32,
     id: &str,
     update_every: u32,
-) -> Result<Result<u32, RegistryFault>, Fail> {
-    let def = chart_def(alloc, id, update_every)?;
-    if update_every > 0 {
-        Ok(registry.define_chart(&def))
+) -> Result<bool, Fail> {
+    let chart = NumberedChart {
+        number,
+        def: chart_def(alloc, id, update_every)?,
+    };
+    if registry.takes_chart(&chart) {
+        registry.take_chart(&chart)?;
+        Ok(true)
     } else {
-        Err(Fail::from("no update_every"))
+        Ok(false)
     }
 }
 
-fn define(
+/// Takes a dimension by these numbers, if it may be taken.
+fn take_dimension_at(
     alloc: Global,
     registry: &mut Registry,
+    series: u32,
     chart: u32,
     id: &str,
     multiplier: i32,
-) -> Result<Result<u32, RegistryFault>, Fail> {
-    let def = dim_def(alloc, id, multiplier)?;
-    if chart < registry.charts() {
-        Ok(registry.define_dimension(chart, &def))
+) -> Result<bool, Fail> {
+    let dimension = NumberedDimension {
+        series,
+        chart,
+        def: dim_def(alloc, id, multiplier)?,
+    };
+    if registry.takes_dimension(&dimension) {
+        registry.take_dimension(&dimension)?;
+        Ok(true)
     } else {
-        Err(Fail::from("no such chart"))
+        Ok(false)
     }
 }
 
@@ -113,19 +119,24 @@ fn multiplier_of(registry: &Registry, series: u32) -> Option<i32> {
 }
 
 #[test]
-fn numbers_charts(rt: HostRuntime) -> Result<(), Fail> {
+fn takes_charts_by_number(rt: HostRuntime) -> Result<(), Fail> {
     let mut registry = Registry::new(rt.alloc());
-    for (id, update_every, want) in [
-        ("system.load", 10, Ok(0)),
-        ("system.cpu", 1, Ok(1)),
-        ("system.load", 10, Ok(0)),
-        ("system.load", 1, Err(RegistryFault::GridChanged)),
-        ("system.cpu", 10, Err(RegistryFault::GridChanged)),
-        ("system", 10, Ok(2)),
-        ("system.cpu", 1, Ok(1)),
+    for (number, id, update_every, want) in [
+        (1, "system.load", 10, false),
+        (0, "system.load", 0, false),
+        (0, "system", 10, false),
+        (0, "system.load", 10, true),
+        (1, "system.cpu", 1, true),
+        (0, "system.load", 10, true),
+        (0, "system.load", 1, false),
+        (1, "system.load", 10, false),
+        (0, "system.cpu", 1, false),
+        (2, "system.cpu", 1, false),
+        (2, "system.io", 10, true),
+        (1, "system.cpu", 1, true),
     ] {
-        let got = define_chart(rt.alloc(), &mut registry, id, update_every)?;
-        assert_eq!(rt; got, want, "{id} at {update_every}");
+        let got = take_chart_at(rt.alloc(), &mut registry, number, id, update_every)?;
+        assert_eq!(rt; got, want, "{id} at {update_every} as {number}");
     }
     assert_eq!(rt; registry.charts(), 3);
     assert_eq!(rt; registry.chart_of("system.cpu"), Some(1));
@@ -134,26 +145,46 @@ fn numbers_charts(rt: HostRuntime) -> Result<(), Fail> {
     Ok(())
 }
 
+/// Takes a chart by the next number.
+fn take_next_chart(
+    alloc: Global,
+    registry: &mut Registry,
+    id: &str,
+    update_every: u32,
+) -> Result<(), Fail> {
+    let number = registry.charts();
+    if take_chart_at(alloc, registry, number, id, update_every)? {
+        Ok(())
+    } else {
+        Err(Fail::from("a chart may not be taken"))
+    }
+}
+
 fn two_charts(alloc: Global) -> Result<Registry, Fail> {
     let mut registry = Registry::new(alloc);
-    define_chart(alloc, &mut registry, "system.cpu", 1)??;
-    define_chart(alloc, &mut registry, "system.load", 10)??;
+    take_next_chart(alloc, &mut registry, "system.cpu", 1)?;
+    take_next_chart(alloc, &mut registry, "system.load", 10)?;
     Ok(registry)
 }
 
 #[test]
-fn numbers_dimensions_of_all_charts(rt: HostRuntime) -> Result<(), Fail> {
+fn takes_dimensions_by_number(rt: HostRuntime) -> Result<(), Fail> {
     let mut registry = two_charts(rt.alloc())?;
-    for (chart, id, multiplier, want) in [
-        (1, "load1", 1, 0),
-        (0, "user", 1, 1),
-        (1, "user", 1, 2),
-        (1, "load1", 9, 0),
-        (0, "user", 1, 1),
-        (0, "load1", 1, 3),
+    for (series, chart, id, multiplier, want) in [
+        (0, 2, "load1", 1, false),
+        (1, 1, "load1", 1, false),
+        (0, 1, "load1", 1, true),
+        (1, 0, "user", 1, true),
+        (1, 1, "user", 1, false),
+        (2, 1, "user", 1, true),
+        (0, 1, "load1", 9, true),
+        (2, 1, "load1", 1, false),
+        (3, 1, "load1", 1, false),
+        (1, 0, "user", 1, true),
+        (3, 0, "load1", 1, true),
     ] {
-        let got = define(rt.alloc(), &mut registry, chart, id, multiplier)?;
-        assert_eq!(rt; got, Ok(want), "{id} of {chart}");
+        let got = take_dimension_at(rt.alloc(), &mut registry, series, chart, id, multiplier)?;
+        assert_eq!(rt; got, want, "{id} of {chart} as {series}");
     }
     assert_eq!(rt; registry.dimensions(), 4);
     assert_eq!(rt; dimensions_of(&registry, 0), Some(2));
@@ -166,11 +197,14 @@ fn numbers_dimensions_of_all_charts(rt: HostRuntime) -> Result<(), Fail> {
     Ok(())
 }
 
-// Defines the dimensions of one chart with these numbers.
-fn define_numbered(alloc: Global, registry: &mut Registry, chart: u32) -> Result<(), Fail> {
+// Takes the dimensions of one chart with these ids.
+fn take_dimensions(alloc: Global, registry: &mut Registry, chart: u32) -> Result<(), Fail> {
     for n in 0..MOST_DIMENSIONS_OF_CHART {
         let id = format!(in alloc; "{n}")?;
-        define(alloc, registry, chart, id.as_str(), 1)??;
+        let series = registry.dimensions();
+        if !take_dimension_at(alloc, registry, series, chart, id.as_str(), 1)? {
+            return Err(Fail::from("a dimension may not be taken"));
+        }
     }
     Ok(())
 }
@@ -180,13 +214,10 @@ fn stops_at_the_limit_of_charts(rt: HostRuntime) -> Result<(), Fail> {
     let mut registry = Registry::new(rt.alloc());
     for n in 0..MOST_CHARTS {
         let id = format!(in rt.alloc(); "chart.{n}")?;
-        define_chart(rt.alloc(), &mut registry, id.as_str(), 1)??;
+        take_next_chart(rt.alloc(), &mut registry, id.as_str(), 1)?;
     }
-    for (id, want) in [
-        ("chart.4096", Err(RegistryFault::TooManyCharts)),
-        ("chart.4095", Ok(4_095)),
-    ] {
-        let got = define_chart(rt.alloc(), &mut registry, id, 1)?;
+    for (number, id, want) in [(4_096, "chart.4096", false), (4_095, "chart.4095", true)] {
+        let got = take_chart_at(rt.alloc(), &mut registry, number, id, 1)?;
         assert_eq!(rt; got, want, "{id}");
     }
     Ok(())
@@ -197,107 +228,31 @@ fn stops_at_the_limits_of_dimensions(rt: HostRuntime) -> Result<(), Fail> {
     let mut registry = Registry::new(rt.alloc());
     for n in 0..65 {
         let id = format!(in rt.alloc(); "chart.{n}")?;
-        define_chart(rt.alloc(), &mut registry, id.as_str(), 1)??;
+        take_next_chart(rt.alloc(), &mut registry, id.as_str(), 1)?;
     }
     for chart in 0..64 {
-        define_numbered(rt.alloc(), &mut registry, chart)?;
+        take_dimensions(rt.alloc(), &mut registry, chart)?;
     }
-    for (chart, id, want) in [
-        (0, "one more", Err(RegistryFault::TooManyDimensions)),
-        (0, "1023", Ok(1_023)),
-        (63, "1023", Ok(65_535)),
-        (64, "0", Err(RegistryFault::TooManyDimensions)),
+    for (series, chart, id, want) in [
+        (65_536, 0, "one more", false),
+        (1_023, 0, "1023", true),
+        (65_535, 63, "1023", true),
+        (65_536, 64, "0", false),
     ] {
-        let got = define(rt.alloc(), &mut registry, chart, id, 1)?;
+        let got = take_dimension_at(rt.alloc(), &mut registry, series, chart, id, 1)?;
         assert_eq!(rt; got, want, "{id} of {chart}");
     }
     assert_eq!(rt; registry.dimensions(), MOST_DIMENSIONS);
     Ok(())
 }
 
-/// What comes of a beat that defines two charts, the first with the update_every 1.
-fn apply_two(
-    alloc: Global,
-    registry: &mut Registry,
-    first: &str,
-    second: &str,
-    update_every: u32,
-) -> Result<Result<(), RegistryFault>, Fail>
-    requires { 0 < update_every }
-{
-    let mut charts = ListOf::new(alloc);
-    charts.push(chart_def(alloc, first, 1)?)?;
-    charts.push(chart_def(alloc, second, update_every)?)?;
-    let beat = OpenBeat {
-        charts,
-        dimensions: ListOf::new(alloc),
-        rows: ListOf::new(alloc),
-    };
-    Ok(registry.apply(&beat))
-}
-
-/// Checks what comes of a beat of two charts, and that there are two charts then.
-fn check_two(
-    rt: &impl Abort,
-    alloc: Global,
-    registry: &mut Registry,
-    ids: (&str, &str),
-    update_every: u32,
-    want: Result<(), RegistryFault>,
-) -> Result<(), Fail>
-    requires { 0 < update_every }
-{
-    let (first, second) = ids;
-    let got = apply_two(alloc, registry, first, second, update_every)?;
-    assert_eq!(rt; got, want);
-    assert_eq!(rt; registry.charts(), 2);
-    Ok(())
-}
-
-/// Takes a beat of two charts, and then two of which one chart may not stand.
-fn check_beats_of_two(rt: &impl Abort, alloc: Global, registry: &mut Registry) -> Result<(), Fail> {
-    let changed = Err(RegistryFault::GridChanged);
-    check_two(
-        rt,
-        alloc,
-        registry,
-        ("system.cpu", "system.load"),
-        10,
-        Ok(()),
-    )?;
-    check_two(
-        rt,
-        alloc,
-        registry,
-        ("system.ram", "system.load"),
-        5,
-        changed,
-    )?;
-    assert_eq!(rt; registry.chart_of("system.ram"), None);
-    check_two(
-        rt,
-        alloc,
-        registry,
-        ("system.load", "system.io"),
-        1,
-        changed,
-    )
-}
-
-#[test]
-fn takes_all_of_a_beat_or_nothing(rt: HostRuntime) -> Result<(), Fail> {
-    let mut registry = Registry::new(rt.alloc());
-    check_beats_of_two(&rt, rt.alloc(), &mut registry)
-}
-
 // After an error the registry has what it had, wherever memory ran out.
 #[test]
 fn leaves_all_as_it_was_without_memory(rt: HostRuntime) -> Result<(), Fail> {
     let mut registry = two_charts(rt.alloc())?;
-    let got = apply_two(rt.alloc(), &mut registry, "system.cpu", "system.ram", 5)?;
+    let got = take_next_chart(rt.alloc(), &mut registry, "system.ram", 5);
     let (charts, ram) = if got.is_ok() { (3, Some(2)) } else { (2, None) };
     assert_eq!(rt; registry.charts(), charts);
     assert_eq!(rt; registry.chart_of("system.ram"), ram);
-    got?;
-    Ok(())
+    got
 }

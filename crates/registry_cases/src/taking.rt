@@ -33,7 +33,7 @@ fn take_beat(
     ensures dimensions { OnOk result (AreApart same_dimension registry.new.dimensions) }
 {
     let numbered = judge_beat(alloc, registry, copies, last, moment, beat)?;
-    match define_beat(registry, moment, beat, &numbered) {
+    match define_beat(registry, &numbered) {
         Ok(()) => Ok(numbered),
         Err(_) => Err(BeatFault::Memory),
     }

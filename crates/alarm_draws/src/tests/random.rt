@@ -396,6 +396,35 @@ fn configure(
     compare(rt, alarms, registry, world, &events)
 }
 
+/// Takes a chart by the number that its id has or gets, which is given; a chart that may not be taken fails.
+fn define_chart(registry: &mut Registry, def: ChartDef) -> Result<u32, Fail> {
+    let number = registry
+        .chart_of(def.id.as_str())
+        .unwrap_or(registry.charts());
+    let chart = NumberedChart { number, def };
+    if !registry.takes_chart(&chart) {
+        return Err(Fail::from("a chart may not be taken"));
+    }
+    registry.take_chart(&chart)?;
+    Ok(number)
+}
+
+/// The same of a dimension.
+fn define_dimension(registry: &mut Registry, chart: u32, def: DimDef) -> Result<(), Fail> {
+    if chart >= registry.charts() {
+        return Err(Fail::from("no such chart"));
+    }
+    let series = registry
+        .series_of(chart, def.id.as_str())
+        .unwrap_or(registry.dimensions());
+    let dimension = NumberedDimension { series, chart, def };
+    if !registry.takes_dimension(&dimension) {
+        return Err(Fail::from("a dimension may not be taken"));
+    }
+    registry.take_dimension(&dimension)?;
+    Ok(())
+}
+
 /// Defines a chart: the next one, or one that is there with the other context.
 fn grow_chart(
     registry: &mut Registry,
@@ -407,7 +436,7 @@ fn grow_chart(
         return Ok(());
     };
     let context = if even { "even" } else { "odd" };
-    registry.define_chart(&chart_def(world.alloc, id, name, context)?)?;
+    define_chart(registry, chart_def(world.alloc, id, name, context)?)?;
     match world.charts.get_mut(place) {
         Some(chart) => chart.even = even,
         None => world.charts.push(PlainChart { id, said, even })?,
@@ -443,7 +472,7 @@ fn draw_dimension(
     };
     let hidden = chart == 2 && id == "b";
     if chart < registry.charts() && !has_series(world, chart, id) {
-        registry.define_dimension(chart, &dim_def(world.alloc, id, name, hidden)?)?;
+        define_dimension(registry, chart, dim_def(world.alloc, id, name, hidden)?)?;
         world.series.push(PlainSeries { chart, id, hidden })?;
     }
     Ok(())
