@@ -27,5 +27,5 @@ pub returns-clause-awaits : goal.returns-clause-awaits
 returns-clause-awaits g c =
     on_both _ _ _ c.see_copy.result c.see_copy.ensures.seen c.see_copy.ensures.before (λ seen at past before set h copy holds was of is.
     copy-awaits past c.args.store.now set h holds before c.args.left.now was copy c.args.kept.now c.args.moment of is c.requires.moment c.make_room.new.self c.see_copy.new.left c.see_copy.ensures.only
-    c.in_ok-make_room.ensures.copied (subst (HasSeenCopy c.args.left.now.registry c.args.left.now.latest c.see_copy.new.left.latest c.args.moment) c.as_slice.ensures seen)
+    c.in_ok-make_room.ensures.ok (subst (HasSeenCopy c.args.left.now.registry c.args.left.now.latest c.see_copy.new.left.latest c.args.moment) c.as_slice.ensures seen)
     (at ∙ c.last-before.ensures))
