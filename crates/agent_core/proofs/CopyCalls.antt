@@ -1,26 +1,36 @@
 -- What an agent adds of the message of a child, and what a call of it leaves.
-use Rattle.std.proofs.Common.{◌≡◌, ℕ, ◌+◌, Bool, true, false, not, ◌&&◌, List, [], length, None, is_none, sym, ap, ◌∙◌, arith, if◌then◌else◌}
+use Rattle.std.proofs.Common.{◌≡◌, ◌⊎◌, inl, inr, ℕ, ◌+◌, ◌<◌, ◌^◌, Bool, true, false, not, ◌&&◌, List, [], length, Option, Some, None, is_none, Result, Ok, Err, refl, sym, ap, subst, ◌∙◌, arith, le_refl, if◌then◌else◌}
 use Rattle.host_model.specs.Past.{Event}
 use Rattle.host_model.specs.Disks.{EveryDisk}
 use Rattle.host_model.specs.Moments.{begins, Throughout}
+use Rattle.host_model.specs.Seen.{Seen}
 use Rattle.std.proofs.lemmas.Bool.{not-false}
+use Rattle.history.specs.declared.fault.BlockFault.{BlockFault}
 use Rattle.history.specs.declared.fault.BlockFault.TheVariants.{MixedRoles}
 use Rattle.history.specs.History.{Beat}
 use Rattle.history.specs.Registry.{Registry}
 use Rattle.chart_registry.proofs.AcceptedLemmas.{passed}
 use Rattle.alarm_events.specs.declared.event.Event.{Event as AlarmEvent}
 use Rattle.replication.specs.declared.message.Data.{Data}
+use Rattle.replication.specs.declared.verdict.Verdict.{Verdict}
 use Rattle.replication.specs.Verdict.{is_stored, verdict_by}
 use Rattle.tier_settings.specs.declared.settings.Settings.{Settings}
+use Rattle.store_core.specs.declared.fault.Why.{Why}
 use Rattle.store_core.specs.Counts.{counted}
-use Rattle.agent_core.specs.Agent.{left_in, AgentState, IsAgentOf}
-use Rattle.agent_core.specs.Calls.{agent_adds, agent_verdict}
+use Rattle.agent_core.specs.declared.fault.AgentFault.{AgentFault}
+use Rattle.agent_core.specs.declared.fault.AgentFault.TheVariants.{Refused, DiskFault, Memory}
+use Rattle.agent_core.specs.declared.left.Role.TheVariants.{Copies}
+use Rattle.agent_core.specs.declared.reply.Reply.{Reply}
+use Rattle.agent_core.specs.Agent.{left_in, AgentIsReady, AgentState, IsAgentOf}
+use Rattle.agent_core.specs.Calls.{agent_adds, agent_verdict, TakesData}
+use Rattle.agent_core.specs.Faults.{fault_after}
 use Rattle.agent_core.specs.Copying.{added_by, added_to, beats_of, copy_refusal, definitions_in, events_onto, names_refusal}
 use Rattle.agent_core.specs.Kept.{onto}
 use Rattle.agent_core.specs.Stands.{StandsForPrefix}
 use Rattle.agent_core.specs.declared.left.Role.{Role}
 use Rattle.agent_core.specs.Roles.{may_copy}
 use Rattle.agent_core.specs.Storing.{HasAdded}
+use Rattle.agent_core.proofs.BoundLemmas.{grows-none}
 use Rattle.agent_core.proofs.PrefixLemmas.{onto-length}
 use Rattle.agent_core.proofs.KeptLemmas.{child-is, stays, store-last}
 
@@ -69,3 +79,71 @@ agent-copied past new agent agent' set h message events is_of added last_is coun
       count = count ∙ ap (λ (n : ℕ). counted (n + length more)) is_of.count ∙ counted-by (length h) (length more) ∙ ap counted (sym (onto-length h more));
       going = going;
     }
+
+-- ---- a call that stores nothing
+counted-own : (n : ℕ) → n < 2 ^ 64 → n ≡ counted (n + 0)
+counted-own n small = omega arith
+
+module _ (honest : Type 0) (host : Seen) (agent : AgentState) (message : Data) (going : agent.fault ≡ None) (ready : AgentIsReady honest host.past agent) where
+  abbrev taken : Verdict → Reply → Result (Verdict × Reply) AgentFault
+  taken verdict reply = Ok (verdict, reply)
+
+  pub message-left : is_stored (agent_verdict agent message) ≡ false → agent.count < 2 ^ 64 → (verdict : Verdict) (reply : Reply) → verdict ≡ agent_verdict agent message → reply ≡ record { count = agent.count; events = [] }
+      → TakesData honest host agent message (taken verdict reply) host agent
+  message-left left small verdict reply verdict_is reply_is = record {
+    verdict = verdict_is;
+    any_moment = λ true_host set h is_of. none-added host.past agent set h is_of (agent_adds agent message);
+    done = λ true_host set h is_of. subst (λ (more : List Beat). IsAgentOf host.past agent set (onto h more)) (none agent message left) is_of;
+    number = ap (λ (r : Reply). r.count) reply_is;
+    events = λ true_host set h is_of. ap (λ (r : Reply). r.events) reply_is ∙ left-events agent message left set h;
+    counts = counted-own agent.count small ∙ ap (λ (more : List Beat). counted (agent.count + length more)) (none agent message left);
+    last = ap (λ (b : Bool). if b then message.upto else agent.last) (sym left);
+    role = ap (λ (b : Bool). if b then Copies message.child else agent.role) (sym left);
+    refused = λ again. ap (λ (b : Bool). if b then copy_refusal agent.registry agent.role message else None) left;
+    left = λ same. (refl, refl);
+    quiet = λ same. refl;
+    fails = λ failed. absurd (never failed);
+    unchanged = tt;
+    fault = going ∙ sym (ap (λ (f : Option Why). fault_after f (taken verdict reply)) going);
+    reopens = going;
+    stays = tt;
+    id = refl;
+    ready = ready;
+    cause = record { later = le_refl host.disk_faults; failed = λ e. absurd (never (inl e)); stays = λ other. refl };
+    bound = λ true_host set h is_of limit fits. grows-none set limit host.past agent.store;
+    only_here = λ true_host. record { others = λ file far. refl; output = refl };
+    tells = refl;
+  }
+    where
+      never : (taken verdict reply ≡ Err DiskFault) ⊎ (taken verdict reply ≡ Err Memory) → ⊥
+      never (inl e) = cc
+      never (inr e) = cc
+
+  abbrev untaken : AgentFault → Result (Verdict × Reply) AgentFault
+  untaken fault = Err fault
+
+  pub message-refused : is_stored (agent_verdict agent message) ≡ true → (reason : BlockFault) → copy_refusal agent.registry agent.role message ≡ Some reason → TakesData honest host agent message (untaken (Refused reason)) host agent
+  message-refused stored reason against = record {
+    verdict = tt;
+    any_moment = λ true_host set h is_of. none-added host.past agent set h is_of (agent_adds agent message);
+    done = tt;
+    number = tt;
+    events = tt;
+    counts = tt;
+    last = tt;
+    role = tt;
+    refused = λ again. ap (λ (b : Bool). if b then copy_refusal agent.registry agent.role message else None) stored ∙ against;
+    left = tt;
+    quiet = λ same. refl;
+    fails = λ failed. stored;
+    unchanged = λ leaves. (refl, refl);
+    fault = going ∙ sym (ap (λ (f : Option Why). fault_after f (untaken (Refused reason))) going);
+    reopens = going;
+    stays = (refl, refl);
+    id = refl;
+    ready = ready;
+    cause = record { later = le_refl host.disk_faults; failed = λ e. absurd cc; stays = λ other. refl };
+    bound = λ true_host set h is_of limit fits. grows-none set limit host.past agent.store;
+    only_here = λ true_host. record { others = λ file far. refl; output = refl };
+    tells = refl;
+  }

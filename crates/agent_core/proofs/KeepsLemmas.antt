@@ -183,3 +183,7 @@ keeps-so-far honest host now old store ready replayed going settings only_here f
   only_here = only_here;
   tells = tells;
 }
+
+-- the disk did not fail a call that was done
+pub kept-faults : {T : Type 0} (honest : Type 0) (host host' : Seen) (old new : StoreState) (value : T) → KeepsStore {T = T} honest host old (Ok value) host' new → host'.disk_faults ≡ host.disk_faults
+kept-faults honest host host' old new value keeps = keeps.cause.stays (λ e. cc)

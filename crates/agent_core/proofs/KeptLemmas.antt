@@ -19,6 +19,7 @@ use Rattle.beat_points.specs.Points.{beat_points, IsNext}
 use Rattle.history.specs.Numbered.{numbered_beat}
 use Rattle.history.specs.Regular.{IsRegular}
 use Rattle.entry_codec.specs.declared.entry.Entry.TheVariants as entry
+use Rattle.beat_entries.specs.Rules.{with_beat}
 use Rattle.alarm_core.specs.Course.{held, Outcome}
 use Rattle.tier_settings.specs.declared.settings.Settings.{Settings}
 use Rattle.entry_codec.specs.Entries.{entry_bytes, HasSpelling}
@@ -34,7 +35,7 @@ use Rattle.agent_core.specs.Agent.{left_in, AgentState, IsAgentOf}
 use Rattle.agent_core.specs.Answers.{tier_beats}
 use Rattle.agent_core.specs.Gaps.{gap_span, join_gap, AreGapsLeft}
 use Rattle.agent_core.specs.LastSeen.{IsLatestOf}
-use Rattle.agent_core.specs.Kept.{copied_point, kept_of, note_of, point_of, stored_points, AreBeatsOf, Follows, IsBeatOf, IsCopyOf, IsTakenBeat}
+use Rattle.agent_core.specs.Kept.{copied_point, kept_of, note_of, point_of, stored_points, AreBeatsOf, Follows, IsBeatOf, IsCopyOf, IsJudgedAt, IsTakenBeat}
 use Rattle.agent_core.specs.Sides.{IsSideOf}
 use Rattle.agent_core.specs.Stands.{HoldsHistory, IsStoredOf, StandsForHealth, StandsForHistory, StandsForOneOf}
 use Rattle.agent_core.specs.Left.{AwaitsAlarms, IsLeftBy}
@@ -42,7 +43,7 @@ use Rattle.agent_core.specs.Replay.{HasRoom, HasSeenBeat, HasSeenCopy, HasTakenR
 use Rattle.agent_core.specs.declared.left.Left.{Left}
 use Rattle.agent_core.specs.declared.left.Role.TheVariants.{Collects, Copies}
 use Rattle.agent_core.specs.Roles.{child_in, copies}
-use Rattle.agent_core.specs.Rules.{beat_refusal, IsOpenBeat}
+use Rattle.agent_core.specs.Rules.{beat_refusal, content_refusal, IsOpenBeat}
 use Rattle.agent_core.specs.Health.{health_refusal}
 use Rattle.agent_core.proofs.HistoryLemmas.{before-of, child-of, copies-of, follows-passed}
 use Rattle.agent_core.proofs.AlarmLemmas.{gap-outcome}
@@ -72,6 +73,27 @@ rows-taken registry lasts lasts' h moment beat numbered same taken next regular 
 pub numbered-at : (registry : Registry) (moment : ℕ) (beat : OpenBeat) (after : Registry) (numbered : NumberedBeat) → IsTakenBeat registry moment beat after numbered → numbered ≡ numbered_beat after numbered.moment beat
 numbered-at registry moment beat after numbered taken =
     taken.numbered_is ∙ (λ i. numbered_beat after (sym (ap (λ (n : NumberedBeat). n.moment) taken.numbered_is) i) beat)
+
+-- a beat that was judged, once the registry took it
+pub judged-at : (registry : Registry) (moment : ℕ) (beat : OpenBeat) (numbered : NumberedBeat) → IsOpenBeat beat → content_refusal registry moment beat ≡ None → numbered ≡ numbered_beat (with_beat registry beat) moment beat
+    → IsJudgedAt registry moment beat numbered
+judged-at registry moment beat numbered is_open content is =
+    let at : moment ≡ numbered.moment = sym (ap (λ (n : NumberedBeat). n.moment) is) in
+    record {
+      moment_is = sym at;
+      judged = record {
+        is_open = is_open;
+        content = subst (λ (m : ℕ). content_refusal registry m beat ≡ None) at content;
+        numbered_is = is ∙ (λ i. numbered_beat (with_beat registry beat) (at i) beat);
+      };
+    }
+
+pub taken-of : (registry after : Registry) (moment : ℕ) (beat : OpenBeat) (numbered : NumberedBeat) → IsJudgedAt registry moment beat numbered → after ≡ with_beat registry beat → IsRegular after beat → IsTakenBeat registry moment beat after numbered
+taken-of registry after moment beat numbered at taken regular = record {
+  applied = taken;
+  numbered_is = at.judged.numbered_is ∙ (λ i. numbered_beat (sym taken i) (at.moment_is i) beat);
+  regular = regular;
+}
 
 pub same-next : (after : Registry) (lasts : List (Option Last)) (g : List Beat) (moment : ℕ) (beat : OpenBeat) (numbered : NumberedBeat) → numbered ≡ numbered_beat after moment beat
     → IsNext after lasts g moment beat → IsNext after lasts g numbered.moment beat

@@ -3,6 +3,7 @@ pub mod AlarmTexts
 pub mod AnswerLemmas
 pub mod AnswerTruth
 pub mod AskLemmas
+pub mod BeatCalls
 pub mod BoundLemmas
 pub mod CallLemmas
 pub mod ClosedLemmas
@@ -18,6 +19,7 @@ pub mod GapCounts
 pub mod GapLemmas
 pub mod GapLists
 pub mod GoingOnLemmas
+pub mod HealthCalls
 pub mod HealthLemmas
 pub mod HistoryLemmas
 pub mod KeepsLemmas

@@ -27,7 +27,8 @@ use Rattle.entry_codec.specs.declared.entry.Entry.{Entry}
 use Rattle.entry_codec.specs.declared.entry.Entry.TheVariants as entry
 use Rattle.beat_entries.proofs.EntryLemmas.{any-find}
 use Rattle.beat_entries.specs.Copied.{copied_goes_on, defined_by, names_word}
-use Rattle.beat_entries.specs.Next.{all_taken, dimension_back, goes_on, is_number, takes_chart, takes_dimension, takes_row, with_chart, with_charts, with_dimension, with_dimensions, with_numbered}
+use Rattle.chart_registry.specs.Taking.{all_taken, dimension_back, is_number, takes_chart, takes_dimension, with_chart, with_charts, with_dimension, with_dimensions}
+use Rattle.beat_entries.specs.Next.{goes_on, takes_row, with_numbered}
 use Rattle.agent_core.specs.Notes.{entry_goes_on, with_entry, Noted}
 use Rattle.agent_core.specs.Roles.{may_collect, may_copy}
 use Rattle.agent_core.specs.Rules.{too_many_charts, too_many_dimensions, HasLimits, IsOpenBeat}

@@ -1,27 +1,30 @@
 -- An agent that was just made.
-use Rattle.std.proofs.Common.{◌≡◌, ◌⊎◌, ℕ, inl, inr, List, [], Some, None, Result, Err, refl, sym, ap, subst, ◌∙◌}
+use Rattle.std.proofs.Common.{◌≡◌, ◌⊎◌, ℕ, inl, inr, List, [], Some, None, Result, Ok, Err, IsErrOf, refl, sym, ap, subst, ◌∙◌, le_refl}
 use Rattle.host_model.specs.Cause.{HasCause}
 use Rattle.host_model.specs.declared.file.File.{File}
 use Rattle.host_model.specs.Past.{Event, IsDisk}
 use Rattle.host_model.specs.Disks.{reads_as, EveryDisk}
-use Rattle.host_model.specs.Moments.{Throughout}
+use Rattle.host_model.specs.Moments.{begins, Throughout}
+use Rattle.host_model.specs.Seen.{Seen}
 use Rattle.host_model.proofs.DiskLemmas.{disks_weaker}
 use Rattle.host_model.proofs.MomentLemmas.{at_end}
 use Rattle.tier_settings.specs.declared.settings.Settings.{Settings}
 use Rattle.tier_settings.specs.Limits.{InLimits}
 use Rattle.store_core.specs.declared.fault.StoreFault.{StoreFault}
 use Rattle.store_core.specs.declared.fault.StoreFault.TheVariants as store_fault
+use Rattle.store_core.specs.Faults.{IsCreateFault}
 use Rattle.store_core.specs.Stands.{StandsIfMade}
 use Rattle.store_core.specs.Store.{IsStoreOf, StoreState}
 use Rattle.store_core.specs.Stored.{new_database}
 use Rattle.agent_core.specs.Agent.{left_in, AgentState, IsAgentOf}
-use Rattle.agent_core.specs.Calls.{ReadsAsBefore}
+use Rattle.agent_core.specs.Calls.{Creates, ReadsAsBefore}
 use Rattle.agent_core.specs.declared.fault.AgentFault.{AgentFault}
 use Rattle.agent_core.specs.declared.fault.AgentFault.TheVariants as agent_fault
-use Rattle.agent_core.specs.Faults.{fault_of}
+use Rattle.agent_core.specs.Faults.{fault_of, IsCreating}
 use Rattle.agent_core.specs.Sides.{IsSideOf}
 use Rattle.agent_core.specs.Stands.{StandsForNew}
 use Rattle.agent_core.specs.Left.{IsLeftBy}
+use Rattle.agent_core.proofs.OpenFaults.{told-by}
 use Rattle.agent_core.proofs.StoredLemmas.{stored_new}
 
 -- a crash left this disk before, or it holds no database, or the one with these settings and without beats
@@ -61,16 +64,27 @@ before-itself past = record { same = λ file. refl; disks = λ disk images. imag
 pub before-at_end : (old new : List Event) → ((file : File) → reads_as new file ≡ reads_as old file) → Throughout (EveryDisk (IsDisk old)) old new → ReadsAsBefore old new
 before-at_end old new same moments = record { same = same; disks = at_end moments }
 
--- ---- a failure of the disk under an agent that is made
-told-disk : (fault : StoreFault) → fault_of fault ≡ Some agent_fault.DiskFault → fault ≡ store_fault.DiskFault
-told-disk store_fault.DiskFault is = refl
-told-disk store_fault.NotADatabase is = cc
-told-disk (store_fault.Damaged part) is = cc
-told-disk store_fault.MomentOrder is = cc
-told-disk (store_fault.Reopen cause) is = cc
-told-disk store_fault.Exists is = cc
-told-disk store_fault.Memory is = cc
+-- memory ran out before its store was made
+pub not-made : (honest : Type 0) (host : Seen) (set : Settings) → Creates honest host set (Err agent_fault.Memory) host
+not-made honest host set = record {
+  any_moment = λ true_host. begins (λ disk images. inl images);
+  created = tt;
+  ready = tt;
+  new = tt;
+  exists = λ is. absurd cc;
+  none = tt;
+  made = λ true_host made. (inr (inr refl), before-itself host.past);
+  made_moment = λ true_host made. begins (λ disk images. images);
+  memory = λ is true_host. before-itself host.past;
+  memory_moment = λ is true_host. begins (λ disk images. images);
+  faults = tt;
+  cause = record { later = le_refl host.disk_faults; failed = λ failed. absurd cc; stays = λ other. refl };
+  bound = λ limit fits true_host within. begins within;
+  only_here = λ true_host. record { others = λ file far. refl; output = refl };
+  tells = refl;
+}
 
+-- ---- a failure of the disk under an agent that is made
 abbrev failed_as : {A : Type 0} → AgentFault → Result A AgentFault
 failed_as fault = Err fault
 
@@ -91,7 +105,7 @@ pub made-cause : {A B : Type 0} (old new : ℕ) (result : Result A StoreFault) (
     → HasCause old new (result ≡ store_failed_as store_fault.DiskFault) → HasCause old new (failed_as {A = B} told ≡ failed_as agent_fault.DiskFault)
 made-cause {A = A} {B = B} old new result fault told is says cause = record {
   later = cause.later;
-  failed = λ failed. cause.failed (is ∙ ap (λ (f : StoreFault). store_failed_as f) (told-disk fault (says ∙ ap (λ (f : AgentFault). Some f) (one-fault {A = B} told agent_fault.DiskFault failed))));
+  failed = λ failed. cause.failed (is ∙ ap (λ (f : StoreFault). store_failed_as f) (told-by fault agent_fault.DiskFault (says ∙ ap (λ (f : AgentFault). Some f) (one-fault {A = B} told agent_fault.DiskFault failed))));
   stays = λ other. cause.stays (λ failed. other (ap (λ (f : AgentFault). failed_as f) (same-told told agent_fault.DiskFault (sym says ∙ ap fault_of (one-store {A = A} fault store_fault.DiskFault (sym is ∙ failed))))));
 }
 
@@ -109,16 +123,23 @@ made-told {A = A} {B = B} result fault told is says (inr (inl e)) =
 made-told {A = A} {B = B} result fault told is says (inr (inr e)) =
     inr (inr (ap (λ (f : AgentFault). failed_as f) (told-as fault store_fault.Memory told agent_fault.Memory says refl (one-store {A = A} fault store_fault.Memory (sym is ∙ e)))))
 
-told-memory : (fault : StoreFault) → fault_of fault ≡ Some agent_fault.Memory → fault ≡ store_fault.Memory
-told-memory store_fault.DiskFault is = cc
-told-memory store_fault.NotADatabase is = cc
-told-memory (store_fault.Damaged part) is = cc
-told-memory store_fault.MomentOrder is = cc
-told-memory (store_fault.Reopen cause) is = cc
-told-memory store_fault.Exists is = cc
-told-memory store_fault.Memory is = refl
-
 pub made-memory : {A B : Type 0} (result : Result A StoreFault) (fault : StoreFault) (told : AgentFault) → result ≡ store_failed_as fault → fault_of fault ≡ Some told
     → failed_as {A = B} told ≡ failed_as agent_fault.Memory → result ≡ store_failed_as store_fault.Memory
 made-memory {A = A} {B = B} result fault told is says memory =
-    is ∙ ap (λ (f : StoreFault). store_failed_as f) (told-memory fault (says ∙ ap (λ (f : AgentFault). Some f) (one-fault {A = B} told agent_fault.Memory memory)))
+    is ∙ ap (λ (f : StoreFault). store_failed_as f) (told-by fault agent_fault.Memory (says ∙ ap (λ (f : AgentFault). Some f) (one-fault {A = B} told agent_fault.Memory memory)))
+
+pub made-exists : {A B : Type 0} (result : Result A StoreFault) (fault : StoreFault) (told : AgentFault) → result ≡ store_failed_as fault → fault_of fault ≡ Some told
+    → failed_as {A = B} told ≡ failed_as agent_fault.Exists → result ≡ store_failed_as store_fault.Exists
+made-exists {A = A} {B = B} result fault told is says exists =
+    is ∙ ap (λ (f : StoreFault). store_failed_as f) (told-by fault agent_fault.Exists (says ∙ ap (λ (f : AgentFault). Some f) (one-fault {A = B} told agent_fault.Exists exists)))
+
+-- the faults of a store that is not made
+pub made-faults : (fault : StoreFault) (told : AgentFault) → fault_of fault ≡ Some told → IsCreateFault fault → IsCreating told
+made-faults fault told says (inl e) = subst IsCreating (sym (told-as fault store_fault.DiskFault told agent_fault.DiskFault says refl e)) tt
+made-faults fault told says (inr (inl e)) = subst IsCreating (sym (told-as fault store_fault.Exists told agent_fault.Exists says refl e)) tt
+made-faults fault told says (inr (inr e)) = subst IsCreating (sym (told-as fault store_fault.Memory told agent_fault.Memory says refl e)) tt
+
+-- where it was made, the disk did not fail
+pub done-cause : {A B : Type 0} (old new : ℕ) (result : Result A StoreFault) (value : A) (agent : B) → result ≡ Ok value → HasCause old new (IsErrOf result store_fault.DiskFault)
+    → HasCause old new (IsErrOf {E = AgentFault} (Ok agent) agent_fault.DiskFault)
+done-cause old new result value agent is cause = record { later = cause.later; failed = λ failed. absurd cc; stays = λ other. cause.stays (λ failed. cc) }

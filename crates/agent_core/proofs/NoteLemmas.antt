@@ -5,7 +5,7 @@ use Rattle.host_model.specs.declared.file.File.{File}
 use Rattle.host_model.specs.Past.{Event}
 use Rattle.entry_codec.specs.declared.entry.Entry.{Entry}
 use Rattle.entry_codec.specs.Entries.{read_entry}
-use Rattle.beat_entries.proofs.Steps.{number-yes}
+use Rattle.chart_registry.proofs.Steps.{number-yes}
 use Rattle.store_core.specs.declared.beats.beat.Beat.{Beat as StoreBeat}
 use Rattle.store_core.specs.Stands.{Stands}
 use Rattle.store_core.specs.Store.{base_of, IsReplayed, IsStoreAt, OpensAt, Replays, StoreState}

@@ -1,7 +1,10 @@
 -- Why an agent is not opened: the faults of its store, and of its replay.
-use Rattle.std.proofs.Common.{◌≡◌, ◌⊎◌, inl, inr, ℕ, zero, suc, ◌≤◌, true, List, Option, Some, None, IsSome, Result, Ok, Err, IfErr, refl, sym, ap, ◌∙◌, subst, arith}
+use Rattle.std.proofs.Common.{◌≡◌, ◌⊎◌, inl, inr, ℕ, zero, suc, ◌≤◌, true, List, Option, Some, None, IsSome, Result, Ok, Err, IfErr, IsErrOf, refl, sym, ap, ◌∙◌, subst, arith}
 use Rattle.std.specs.Option.{is_some}
 use Rattle.std.proofs.lemmas.Option.{none-some, same_Some}
+use Rattle.beat_entries.specs.declared.refusal.EntryRefusal.{EntryRefusal}
+use Rattle.beat_entries.specs.declared.refusal.EntryRefusal.TheVariants as refusal
+use Rattle.host_model.specs.Cause.{HasCause}
 use Rattle.host_model.specs.declared.file.File.{File}
 use Rattle.store_core.specs.Damaged.{IsDamagedIn}
 use Rattle.store_core.specs.Stands.{is_made}
@@ -12,7 +15,7 @@ use Rattle.store_core.specs.Faults.{IsOpenFault, IsReplayFault, ReopensWith}
 use Rattle.store_core.proofs.StandLemmas.{is-made, never-damaged}
 use Rattle.agent_core.specs.declared.fault.AgentFault.{AgentFault}
 use Rattle.agent_core.specs.declared.fault.AgentFault.TheVariants.{Refused, Health, DiskFault, NotADatabase, Damaged, Reopen, Exists, Memory}
-use Rattle.agent_core.specs.Faults.{fault_of, IsOpening, IsUnopened, IsUnreplayed}
+use Rattle.agent_core.specs.Faults.{fault_of, unread, IsOpening, IsUnopened, IsUnreplayed}
 use Rattle.agent_core.specs.Notes.{IsDamaged}
 
 -- ---- what a fault of a store is for an agent
@@ -46,24 +49,25 @@ opens-unopened (store.Reopen cause) answer of is = absurd is
 opens-unopened store.Exists answer of is = absurd is
 opens-unopened store.Memory answer of is = subst IsUnopened (same_Some Memory answer of) tt
 
--- the part that is damaged is that of the store
-pub told-damaged : (fault : StoreFault) (part : ℕ) → fault_of fault ≡ Some (Damaged part) → fault ≡ store.Damaged part
-told-damaged store.DiskFault part of = cc
-told-damaged store.NotADatabase part of = cc
-told-damaged (store.Damaged other) part of = cc
-told-damaged store.MomentOrder part of = cc
-told-damaged (store.Reopen cause) part of = cc
-told-damaged store.Exists part of = cc
-told-damaged store.Memory part of = cc
+-- the fault of a store that is told so
+abbrev pub store_told : AgentFault → StoreFault
+store_told (Refused why) = store.MomentOrder
+store_told (Health why) = store.MomentOrder
+store_told DiskFault = store.DiskFault
+store_told NotADatabase = store.NotADatabase
+store_told (Damaged part) = store.Damaged part
+store_told (Reopen cause) = store.Reopen cause
+store_told Exists = store.Exists
+store_told Memory = store.Memory
 
-pub told-none : (fault : StoreFault) → fault_of fault ≡ Some NotADatabase → fault ≡ store.NotADatabase
-told-none store.DiskFault of = cc
-told-none store.NotADatabase of = refl
-told-none (store.Damaged part) of = cc
-told-none store.MomentOrder of = cc
-told-none (store.Reopen cause) of = cc
-told-none store.Exists of = cc
-told-none store.Memory of = cc
+pub told-by : (fault : StoreFault) (told : AgentFault) → fault_of fault ≡ Some told → fault ≡ store_told told
+told-by store.DiskFault told of = ap store_told (same_Some DiskFault told of)
+told-by store.NotADatabase told of = ap store_told (same_Some NotADatabase told of)
+told-by (store.Damaged part) told of = ap store_told (same_Some (Damaged part) told of)
+told-by store.MomentOrder told of = absurd (none-some told of)
+told-by (store.Reopen cause) told of = ap store_told (same_Some (Reopen cause) told of)
+told-by store.Exists told of = ap store_told (same_Some Exists told of)
+told-by store.Memory told of = ap store_told (same_Some Memory told of)
 
 -- ---- why a beat is not replayed
 pub replays-said : (fault : StoreFault) → IsReplayFault fault → IsSome (fault_of fault)
@@ -96,6 +100,15 @@ pub never-four : (fault : AgentFault) → fault ≡ Damaged 4 → (fault ≡ Mem
 never-four fault damaged (inl memory) = absurd cc
 never-four fault damaged (inr notes) = absurd (omega (arith, same-part 4 5 (sym damaged ∙ notes)))
 
+-- ---- an entry that was not taken
+pub unread-next : (told : EntryRefusal) → unread told ≡ Damaged 5 → told ≡ refusal.NotNext
+unread-next refusal.NotNext is = refl
+unread-next refusal.Memory is = cc
+
+pub unread-either : (told : EntryRefusal) → (unread told ≡ Memory) ⊎ (unread told ≡ Damaged 5)
+unread-either refusal.NotNext = inr refl
+unread-either refusal.Memory = inl refl
+
 -- ---- the parts
 
 -- a replay says that part 4 or part 5 is damaged
@@ -109,6 +122,12 @@ never-below part below is = elim (unreplayed-parts part is) [ inl e ↦ absurd (
 
 pub only-four : (part : ℕ) → part ≤ 4 → IsUnreplayed (Damaged part) → Damaged part ≡ Damaged 4
 only-four part below is = elim (unreplayed-parts part is) [ inl e ↦ ap (λ (n : ℕ). Damaged n) e | inr e ↦ absurd (omega (arith, below, e)) ]
+
+-- a replay never finds no database
+pub never-none : IsUnreplayed NotADatabase → ⊥
+never-none (inl e) = cc
+never-none (inr (inl e)) = cc
+never-none (inr (inr e)) = cc
 
 -- a store is opened without its notes
 pub no-notes : IsUnopened (Damaged 5) → ⊥
@@ -162,3 +181,32 @@ told-on {T = T} {U = U} result fault answer is same = is ∙ ap (λ (f : AgentFa
 pub err-weaker : {T E : Type 0} (result : Result T E) (P Q : E → Type 0) → ((fault : E) → P fault → Q fault) → IfErr result P → IfErr result Q
 err-weaker (Ok value) P Q weaker holds = tt
 err-weaker (Err fault) P Q weaker holds = weaker fault holds
+
+-- ---- a failure of the disk
+
+never-disk : IsUnreplayed DiskFault → ⊥
+never-disk (inl e) = cc
+never-disk (inr (inl e)) = cc
+never-disk (inr (inr e)) = cc
+
+-- it failed the opening exactly where it failed that of the store
+pub told-cause : {T U : Type 0} (old new : ℕ) (result : Result T AgentFault) (fault : AgentFault) → result ≡ failed_with fault → HasCause old new (IsErrOf result DiskFault)
+    → HasCause old new (IsErrOf (failed_with {T = U} fault) DiskFault)
+told-cause {T = T} {U = U} old new result fault is cause = record {
+  later = cause.later;
+  failed = λ failed. cause.failed (told-on {T = T} {U = U} result fault DiskFault is failed);
+  stays = λ other. cause.stays (λ failed. other (ap (λ (f : AgentFault). failed_with {T = U} f) (one-told {T = T} fault DiskFault (sym is ∙ failed))));
+}
+
+-- and it fails no replay
+pub replayed-cause : {T U : Type 0} (old new : ℕ) (result : Result T AgentFault) (value : T) (replayed : Result U AgentFault) → result ≡ Ok value → HasCause old new (IsErrOf result DiskFault)
+    → IfErr replayed IsUnreplayed → HasCause old new (IsErrOf replayed DiskFault)
+replayed-cause old new result value replayed is cause faults = record {
+  later = cause.later;
+  failed = λ failed. absurd (by replayed failed faults);
+  stays = λ other. cause.stays (λ failed. cc);
+}
+  where
+    by : {U : Type 0} (replayed : Result U AgentFault) → IsErrOf replayed DiskFault → IfErr replayed IsUnreplayed → ⊥
+    by (Ok given) failed faults = cc
+    by (Err fault) failed faults = never-disk (subst IsUnreplayed (one-told fault DiskFault failed) faults)

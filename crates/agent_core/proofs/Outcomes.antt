@@ -2,11 +2,12 @@
 use Rattle.std.proofs.Common.{◌≡◌, ◌⊎◌, inl, inr, ℕ, ◌≤◌, Option, None, Result, Ok, Err, IfErr, IfOk, IsErrOf, OnOk, OnErr, refl, sym, subst, ◌∙◌, le_refl}
 use Rattle.std.proofs.lemmas.Option.{none-some}
 use Rattle.host_model.specs.Cause.{HasCause}
+use Rattle.health_config.specs.declared.fault.ConfigFault.{ConfigFault}
 use Rattle.history.specs.declared.fault.BlockFault.{BlockFault}
 use Rattle.store_core.specs.declared.fault.Why.{Why}
 use Rattle.agent_core.specs.declared.fault.AgentFault.{AgentFault}
 use Rattle.agent_core.specs.declared.fault.AgentFault.TheVariants.{Refused, Health, DiskFault, NotADatabase, Damaged, Reopen, Exists, Memory}
-use Rattle.agent_core.specs.Faults.{IsHealthRefusal, IsReading, IsRefusal, IsSpending, LeavesAll, ReopensWith}
+use Rattle.agent_core.specs.Faults.{HealthRefusedBy, IsHealthRefusal, IsReading, IsRefusal, IsSpending, LeavesAll, RefusedBy, Reopens, ReopensWith}
 
 pub always : {T E : Type 0} (P : Type 0) (result : Result T E) → P → OnOk result P
 always P (Ok value) holds = holds
@@ -15,6 +16,11 @@ always P (Err fault) holds = tt
 pub on_ok : {T E : Type 0} (P Q : Type 0) (result : Result T E) → OnOk result P → (P → Q) → OnOk result Q
 on_ok P Q (Ok value) holds shows = shows holds
 on_ok P Q (Err fault) holds shows = tt
+
+-- what holds where it was done, and where it was not
+pub either_way : {T E : Type 0} (P : Type 0) (result : Result T E) → OnOk result P → OnErr result P → P
+either_way P (Ok value) done failed = done
+either_way P (Err fault) done failed = failed
 
 -- two things that hold where it was done
 pub on_both : {T E : Type 0} (P Q R : Type 0) (result : Result T E) → OnOk result P → OnOk result Q → (P → Q → R) → OnOk result R
@@ -121,3 +127,20 @@ spending-refusal reason (Damaged part) free spends = absurd spends
 spending-refusal reason (Reopen cause) free spends = absurd spends
 spending-refusal reason Exists free spends = absurd spends
 spending-refusal reason Memory free spends = free
+
+-- ---- a call in which memory alone may have run out, of an agent that was going
+pub told-refusal : {T : Type 0} (reason : Option BlockFault) (result : Result T AgentFault) → reason ≡ None → IfErr result (λ fault. fault ≡ Memory) → RefusedBy reason result
+told-refusal reason (Ok value) free short = free
+told-refusal reason (Err fault) free short = subst (IsRefusal reason) (sym short) free
+
+pub told-reopens : {T : Type 0} (before : Option Why) (result : Result T AgentFault) → before ≡ None → IfErr result (λ fault. fault ≡ Memory) → Reopens before result
+told-reopens before (Ok value) going short = going
+told-reopens before (Err fault) going short = short-reopens before fault short going
+
+pub told-changes : {T : Type 0} (P : Type 0) (result : Result T AgentFault) → IfErr result (λ fault. fault ≡ Memory) → IfErr result (λ fault. LeavesAll fault → P)
+told-changes P (Ok value) short = tt
+told-changes P (Err fault) short = λ leaves. absurd (short-changes fault short leaves)
+
+pub told-health : {T : Type 0} (reason : Option ConfigFault) (result : Result T AgentFault) → reason ≡ None → IfErr result (λ fault. fault ≡ Memory) → HealthRefusedBy reason result
+told-health reason (Ok value) free short = free
+told-health reason (Err fault) free short = subst (IsHealthRefusal reason) (sym short) tt

@@ -14,8 +14,8 @@ use Rattle.host_model.proofs.DiskLemmas.{disks_weaker}
 use Rattle.host_model.proofs.MomentLemmas.{joined}
 use Rattle.history.specs.declared.beat.OpenDim.{OpenDim}
 use Rattle.history.specs.declared.chart.ChartDef.{ChartDef}
-use Rattle.history.specs.declared.numbered.NumberedBeat.{NumberedBeat}
 use Rattle.history.specs.declared.numbered.NumberedChart.{NumberedChart}
+use Rattle.history.specs.declared.numbered.NumberedDimension.{NumberedDimension}
 use Rattle.history.specs.declared.fault.BlockFault.TheVariants.{MixedRoles}
 use Rattle.history.specs.History.{Beat, copied, last, missing, registry_of, Copy, Gap}
 use Rattle.history.specs.Numbered.{numbered_charts, numbered_dimension, numbered_dimensions}
@@ -167,14 +167,14 @@ later-at registry message beats i beat at =
     slice_get-map (copied_of message.child registry nothing_defined) (named_beats message.names beats) i
     ∙ ap (option_map (copied_of message.child registry nothing_defined)) (slice_get-map (named_beat message.names) beats i ∙ ap (option_map (named_beat message.names)) at)
 
-pub sent-later : (now registry : Registry) (message : Data) (defines : NumberedBeat) (beat : SentBeat) (g : List Beat) → defines.charts ≡ [] → defines.dimensions ≡ [] → now ≡ registry → now ≡ registry_of g
-    → MayTake g (copied (later_copy registry message beat)) → IsSentAs now message defines beat g (later_copy registry message beat)
-sent-later now registry message defines beat g charts dimensions same is follows = record {
+pub sent-later : (now registry : Registry) (message : Data) (beat : SentBeat) (g : List Beat) → now ≡ registry → now ≡ registry_of g
+    → MayTake g (copied (later_copy registry message beat)) → IsSentAs now message [] [] beat g (later_copy registry message beat)
+sent-later now registry message beat g same is follows = record {
   child = refl;
   moment = refl;
   words = ap (λ (r : Registry). sent_words r message beat) (sym same);
-  charts = charts ∙ no-charts now.charts 0;
-  dimensions = dimensions ∙ no-dimensions now now.dimensions 0;
+  charts_are = no-charts now.charts 0;
+  dimensions_are = no-dimensions now now.dimensions 0;
   follows = follows;
   registry_is = is;
 }
@@ -211,15 +211,15 @@ first_copy registry message beat = let defines = definitions_in message.names in
   words = sent_words registry message beat;
 }
 
-pub sent-first : (before registry : Registry) (message : Data) (defines : NumberedBeat) (beat : SentBeat) (g : List Beat) → defines.charts ≡ numbered_charts registry (definitions_in message.names)
-    → defines.dimensions ≡ numbered_dimensions registry (definitions_in message.names) → before ≡ registry_of g → registry ≡ with_names before message → MayTake g (copied (first_copy registry message beat))
-    → IsSentAs registry message defines beat g (first_copy registry message beat)
-sent-first before registry message defines beat g charts dimensions was is follows = record {
+pub sent-first : (before registry : Registry) (message : Data) (charts : List NumberedChart) (dimensions : List NumberedDimension) (beat : SentBeat) (g : List Beat) → charts ≡ numbered_charts registry (definitions_in message.names)
+    → dimensions ≡ numbered_dimensions registry (definitions_in message.names) → before ≡ registry_of g → registry ≡ with_names before message → MayTake g (copied (first_copy registry message beat))
+    → IsSentAs registry message charts dimensions beat g (first_copy registry message beat)
+sent-first before registry message charts dimensions beat g charts_are dimensions_are was is follows = record {
   child = refl;
   moment = refl;
   words = refl;
-  charts = charts;
-  dimensions = dimensions;
+  charts_are = charts_are;
+  dimensions_are = dimensions_are;
   follows = follows;
   registry_is = is ∙ ap (λ (r : Registry). with_names r message) was;
 }

@@ -16,7 +16,8 @@ use Rattle.entry_codec.specs.declared.entry.Entry.TheVariants as entry
 use Rattle.entry_codec.specs.Entries.{entry_bytes, read_entry, HasSpelling}
 use Rattle.entry_codec.proofs.EntriesLaw.{reads_back}
 use Rattle.beat_entries.specs.Copied.{defined_by}
-use Rattle.beat_entries.specs.Next.{chart_def, dimension_back, with_charts, with_numbered}
+use Rattle.chart_registry.specs.Taking.{chart_def, dimension_back, with_charts}
+use Rattle.beat_entries.specs.Next.{with_numbered}
 use Rattle.history.specs.Numbered.{numbered_beat}
 use Rattle.beat_entries.proofs.CopiedLemmas.{all-mapped, copied-next, copied-registry}
 use Rattle.beat_entries.proofs.DefinedLemmas.{chart-alike, chart-itself, dimension-alike, dimension-itself}

@@ -10,7 +10,8 @@ use Rattle.history.specs.Registry.{Registry, empty, same_chart, same_dimension}
 use Rattle.history.specs.Regular.{AreApart}
 use Rattle.alarm_core.specs.Course.{held}
 use Rattle.alarm_core.specs.Kept.{kept, of_kept}
-use Rattle.beat_entries.specs.Next.{chart_def, dimension_back, goes_on, with_charts, with_numbered}
+use Rattle.chart_registry.specs.Taking.{chart_def, dimension_back, with_charts}
+use Rattle.beat_entries.specs.Next.{goes_on, with_numbered}
 use Rattle.beat_entries.proofs.DefinedLemmas.{chart-alike, chart-itself, dimension-alike, dimension-itself}
 use Rattle.beat_entries.proofs.PutLemmas.{apart-put_all}
 use Rattle.entry_codec.specs.declared.entry.Entry.TheVariants as entry

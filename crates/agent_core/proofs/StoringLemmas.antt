@@ -1,21 +1,17 @@
 -- What a store keeps of a gap and of a copied beat.
-use Rattle.std.proofs.Common.{◌≡◌, ℕ, ◌+◌, ◌<◌, ◌≤◌, ◌^◌, true, List, [], ◌∷◌, length, map, Some, refl, sym, ap, ◌∙◌, subst, arith, length-append, lt-ltb}
-use Rattle.std.specs.List.{enumerate_from, filter_map, find}
-use Rattle.std.specs.Option.{option_map}
-use Rattle.std.specs.Str.{bytes_eq}
+use Rattle.std.proofs.Common.{◌≡◌, ℕ, ◌<◌, ◌≤◌, ◌^◌, true, List, [], ◌∷◌, length, map, Some, refl, sym, ap, ◌∙◌, subst, arith, length-append, lt-ltb}
 use Rattle.std.proofs.lemmas.Bool.{cond-false, cond-true, le-ltb}
+use Rattle.std.proofs.lemmas.List.Elements.{All-nil}
 use Rattle.host_model.specs.Past.{Event}
-use Rattle.history.specs.declared.beat.OpenBeat.{OpenBeat}
-use Rattle.history.specs.declared.beat.OpenRow.{OpenRow}
-use Rattle.history.specs.declared.chart.ChartDef.{ChartDef}
-use Rattle.history.specs.declared.row.Row.{Row}
-use Rattle.history.specs.declared.numbered.NumberedBeat.{NumberedBeat}
+use Rattle.history.specs.declared.numbered.NumberedChart.{NumberedChart}
+use Rattle.history.specs.declared.numbered.NumberedDimension.{NumberedDimension}
 use Rattle.history.specs.History.{Beat, copied, missing, registry_of, Copy, Gap}
-use Rattle.history.specs.Numbered.{numbered_charts, numbered_dimensions, numbered_rows, numbered_values, IsThere}
+use Rattle.history.specs.Limits.{chart_keeps_limits, dimension_keeps_limits}
+use Rattle.history.specs.Numbered.{numbered_charts, numbered_dimensions}
 use Rattle.history.specs.Registry.{Registry}
 use Rattle.entry_codec.specs.declared.entry.Entry.TheVariants as entry
 use Rattle.tier_settings.specs.declared.settings.Settings.{Settings}
-use Rattle.entry_codec.specs.Entries.{entry_bytes, gap_bytes, is_canonical, HasSpelling}
+use Rattle.entry_codec.specs.Entries.{entry_bytes, gap_bytes, is_canonical, is_collected_canonical, HasSpelling, IsWithinLimits}
 use Rattle.field_codec.proofs.Lengths.{length-u32_bytes, length-u64_bytes}
 use Rattle.beat_entries.specs.Copied.{definitions_of, told_chart, told_dimension, told_word}
 use Rattle.beat_tiers.specs.declared.item.BeatPoint.{BeatPoint}
@@ -29,7 +25,7 @@ use Rattle.agent_core.specs.Copying.{gap_beat}
 use Rattle.agent_core.specs.Kept.{copied_entry, copied_point, gap_entry, IsCopyOf, IsGapOf}
 use Rattle.agent_core.specs.Stands.{HoldsHistory}
 use Rattle.agent_core.specs.Roles.{may_copy, role_of}
-use Rattle.agent_core.specs.Storing.{gap_beats, sent_entry, sent_kept, IsSentAs}
+use Rattle.agent_core.specs.Storing.{defining, gap_beats, sent_entry, sent_kept, IsSentAs}
 use Rattle.agent_core.proofs.KeptLemmas.{store-last}
 
 -- ---- a gap
@@ -65,21 +61,21 @@ gap-of past store set h holds gap kept is_kept spelt role at later =
 
 -- ---- a copied beat
 
-module _ (registry : Registry) (message : Data) (defines : NumberedBeat) (beat : SentBeat) (g : List Beat) (copy : Copy) (sent : IsSentAs registry message defines beat g copy) where
-  entry-same : entry.Copied (sent_entry registry message defines beat) ≡ copied_entry g copy
+module _ (registry : Registry) (message : Data) (charts : List NumberedChart) (dimensions : List NumberedDimension) (beat : SentBeat) (g : List Beat) (copy : Copy) (sent : IsSentAs registry message charts dimensions beat g copy) where
+  entry-same : entry.Copied (sent_entry registry message charts dimensions beat) ≡ copied_entry g copy
   entry-same =
-      let charts : defines.charts ≡ numbered_charts (registry_of (copied copy ∷ g)) (definitions_of copy) = sent.charts ∙ ap (λ (r : Registry). numbered_charts r (definitions_of copy)) sent.registry_is in
-      let dimensions : defines.dimensions ≡ numbered_dimensions (registry_of (copied copy ∷ g)) (definitions_of copy) = sent.dimensions ∙ ap (λ (r : Registry). numbered_dimensions r (definitions_of copy)) sent.registry_is in
+      let charts_are : charts ≡ numbered_charts (registry_of (copied copy ∷ g)) (definitions_of copy) = sent.charts_are ∙ ap (λ (r : Registry). numbered_charts r (definitions_of copy)) sent.registry_is in
+      let dimensions_are : dimensions ≡ numbered_dimensions (registry_of (copied copy ∷ g)) (definitions_of copy) = sent.dimensions_are ∙ ap (λ (r : Registry). numbered_dimensions r (definitions_of copy)) sent.registry_is in
       λ i. entry.Copied (record {
         child = sym sent.child i;
         moment = sym sent.moment i;
-        charts = map told_chart (charts i);
-        dimensions = map told_dimension (dimensions i);
+        charts = map told_chart (charts_are i);
+        dimensions = map told_dimension (dimensions_are i);
         words = map told_word (sym sent.words i);
       })
 
   -- what is kept of the beat is that of the copy
-  pub copy-of : (kept : StoreBeat) → kept ≡ sent_kept registry message defines beat → HasSpelling (entry.Copied (sent_entry registry message defines beat)) → IsCopyOf g copy kept
+  pub copy-of : (kept : StoreBeat) → kept ≡ sent_kept registry message charts dimensions beat → HasSpelling (entry.Copied (sent_entry registry message charts dimensions beat)) → IsCopyOf g copy kept
   copy-of kept is spelt =
       let whole : StoreBeat → StoreBeat = λ kept. kept in
       record {
@@ -92,25 +88,20 @@ module _ (registry : Registry) (message : Data) (defines : NumberedBeat) (beat :
         spelt = subst HasSpelling entry-same spelt;
       }
 
--- a beat without rows has none that are not there
-pub no-rows-there : (registry : Registry) (beat : NumberedBeat) → beat.rows ≡ [] → IsThere registry beat
-no-rows-there registry beat none = record {
-  charts = λ k d less. absurd (omega (arith, ap length none, less));
-  dimensions = λ k d less. absurd (omega (arith, ap length none, less));
-  limit = λ k d less. absurd (omega (arith, ap length none, less));
+-- a beat that defines nothing keeps the limits
+pub nothing-within : IsWithinLimits (defining [] [])
+nothing-within = record {
+  chart_limits = All-nil (λ (chart : NumberedChart). chart_keeps_limits chart.def ≡ true);
+  dimension_limits = All-nil (λ (dimension : NumberedDimension). dimension_keeps_limits dimension.def ≡ true);
+  charts = omega arith;
+  dimensions = omega arith;
+  rows = omega arith;
+  values = omega arith;
 }
 
-abbrev no_row : List Row
-no_row = []
-
--- and by number it has none
-pub no-numbered-rows : (registry : Registry) (beat : OpenBeat) → beat.rows ≡ [] → numbered_rows registry beat ≡ []
-no-numbered-rows registry beat none = ap (λ (rows : List OpenRow). numbered_rows registry (record beat { rows = rows })) none ∙ by registry.charts 0
-  where
-    by : (defs : List ChartDef) (n : ℕ) → filter_map (λ (place : ℕ × ChartDef). option_map (λ (row : OpenRow). record { chart = place.0; values = numbered_values registry row })
-        (find (λ (row : OpenRow). bytes_eq place.1.id row.chart) [])) (enumerate_from n defs) ≡ no_row
-    by [] n = refl
-    by (def ∷ defs) n = by defs (n + 1)
+pub nothing-canonical : is_collected_canonical (defining [] []) ≡ true
+unfolding is_collected_canonical
+nothing-canonical = refl
 
 -- ---- the gap before the beats of a Data
 pub gap-some : (message : Data) → message.prev < message.from → missing (record { child = message.child; from = message.prev; to = message.from }) ∷ [] ≡ gap_beats message

@@ -8,7 +8,7 @@ use Rattle.std.proofs.lemmas.Bool.{cases_Bool, and_parts, eq-eqb, eqb-true, ltb-
 use Rattle.std.proofs.lemmas.List.{length-map, take_more}
 use Rattle.std.proofs.lemmas.List.Elements.{All-from_recursion, All-map, All-weaker, filter_map-append}
 use Rattle.std.proofs.lemmas.List.FromFn.{length-enumerate_from}
-use Rattle.std.proofs.lemmas.Option.{none-some, same_Some, slice_get_within}
+use Rattle.std.proofs.lemmas.Option.{none-some, same_Some, slice_get-map, slice_get_within}
 use Rattle.history.specs.declared.beat.OpenDim.{OpenDim}
 use Rattle.history.specs.History.{Word}
 use Rattle.history.specs.Registry.{Registry, is_dimension, is_of, same_dimension, series_of}
@@ -42,7 +42,7 @@ use Rattle.link_frames.proofs.PlacesLaw.{all-of}
 use Rattle.agent_core.specs.Copying.{is_point_of, numbered_word, numbered_words}
 use Rattle.agent_core.specs.Kept.{copied_point}
 use Rattle.agent_core.specs.Kept.{point_of as kept_point}
-use Rattle.agent_core.specs.Storing.{entry_word, numbered_point, point_word}
+use Rattle.agent_core.specs.Storing.{entry_word, named_series, numbered_point, point_word, series_named, series_word}
 use Rattle.agent_core.proofs.TakenLemmas.{all-made, apart-made, one-place}
 
 -- ---- lists
@@ -319,3 +319,43 @@ copied-points registry (word ∷ words) = ap (λ (rest : List BeatPoint). copied
 pub all-stored : (registry : Registry) (words : List SeriesWord) → ArePointsIn registry words → All (λ (word : SeriesWord). is_word word.word ≡ true) words
 all-stored registry words all =
     All-weaker (λ (word : SeriesWord). (word.series < length registry.dimensions) × (is_word word.word ≡ true)) (λ (word : SeriesWord). is_word word.word ≡ true) (λ word given. given.1) words all
+
+-- ---- the words by the series of the names of their Data
+
+abbrev at_place : SentWord → Option (Option ℕ) → Option SeriesWord
+at_place word found = option_map (λ (number : ℕ). record { series = number; word = word.word }) (option_and_then (λ (series : Option ℕ). series) found)
+
+-- the series at the place of a word is the one that its name means
+word-named : (registry : Registry) (names : Names) (word : SentWord) → series_word (named_series registry names) word ≡ option_and_then (numbered_point registry) (named_point names word)
+word-named registry names word = ap (at_place word) (slice_get-map (series_named registry names) names.dimensions word.series) ∙ by (slice_get names.dimensions word.series)
+  where
+    of : (id : List ℕ) (found : Option ChartName) → option_map (λ (number : ℕ). record { series = number; word = word.word }) (option_and_then (λ (chart : ChartName). series_of registry chart.id id) found)
+        ≡ option_and_then (numbered_point registry) (option_map (λ (chart : ChartName). record { chart = chart.id; dimension = id; word = word.word }) found)
+    of id None = refl
+    of id (Some chart) = refl
+
+    by : (found : Option DimName) → at_place word (option_map (series_named registry names) found) ≡ option_and_then (numbered_point registry) (option_and_then (point_of names word.word) found)
+    by None = refl
+    by (Some dimension) = of dimension.id (slice_get names.charts dimension.chart)
+
+-- these are the words of a beat by number, in their order
+pub record AreSentWords (registry : Registry) (names : Names) (beat : SentBeat) (words : List SeriesWord) : Type 0 where
+  pub words_are : words ≡ map point_word (numbered_words registry (named_beat names beat).points)
+  pub there : ArePointsIn registry words
+  pub rising : AreRising words
+  pub few : length words ≤ 65536
+
+pub sent-words : (registry : Registry) → AreApart same_dimension registry.dimensions → length registry.dimensions ≤ 65536 → (names : Names) (beat : SentBeat) → AreNamesApart names → has_rising_places beat ≡ true → has_storage_numbers beat ≡ true
+    → (series : List (Option ℕ)) (words : List SeriesWord) → series ≡ named_series registry names → IsPermutation (filter_map (series_word series) beat.words) words → IsNonDecreasingBy (λ (word : SeriesWord). word.series) words
+    → AreSentWords registry names beat words
+sent-words registry own most names beat apart places stored series words is same up =
+    let points = (named_beat names beat).points in
+    let all : filter_map (series_word series) beat.words ≡ filter_map (λ (word : SentWord). option_and_then (numbered_point registry) (named_point names word)) beat.words
+    = (λ i. filter_map (series_word (is i)) beat.words) ∙ (λ i. filter_map (λ (word : SentWord). word-named registry names word i) beat.words) in
+    let words_are = sorted-words registry own names beat apart places (filter_map (series_word series) beat.words) words all same up in
+    record {
+      words_are = words_are;
+      there = subst (ArePointsIn registry) (sym words_are) (words-in registry names beat stored);
+      rising = subst AreRising (sym words_are) (words-rising registry points);
+      few = omega (arith, ap length words_are, words-few registry points, most);
+    }

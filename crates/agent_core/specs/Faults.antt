@@ -1,5 +1,7 @@
 -- What a fault of an agent leaves it as.
 use Rattle.std.specs.Prelude.{◌≡◌, ◌⊎◌, ◌≤◌, Option, Some, None, Result, Ok, Err}
+use Rattle.beat_entries.specs.declared.refusal.EntryRefusal.{EntryRefusal}
+use Rattle.beat_entries.specs.declared.refusal.EntryRefusal.TheVariants as refusal
 use Rattle.health_config.specs.declared.fault.ConfigFault.{ConfigFault}
 use Rattle.history.specs.declared.fault.BlockFault.{BlockFault}
 use Rattle.store_core.specs.declared.fault.StoreFault.{StoreFault}
@@ -19,6 +21,11 @@ fault_of store.MomentOrder = None
 fault_of (store.Reopen cause) = Some (Reopen cause)
 fault_of store.Exists = Some Exists
 fault_of store.Memory = Some Memory
+
+-- what it is for an agent that an entry of its store was not taken
+abbrev pub unread : EntryRefusal → AgentFault
+unread refusal.NotNext = Damaged 5
+unread refusal.Memory = Memory
 
 -- the cause that a fault leaves
 abbrev pub cause_of : AgentFault → Option Why

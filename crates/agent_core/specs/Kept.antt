@@ -14,6 +14,7 @@ use Rattle.entry_codec.specs.declared.entry.Entry.{Entry}
 use Rattle.entry_codec.specs.declared.entry.Entry.TheVariants as entry
 use Rattle.entry_codec.specs.Entries.{entry_bytes, HasSpelling}
 use Rattle.beat_entries.specs.Copied.{copied_entry_of, MayCopy}
+use Rattle.beat_entries.specs.Taking.{IsJudged}
 use Rattle.history.specs.Numbered.{numbered_beat}
 use Rattle.store_core.specs.declared.beats.beat.Beat.{Beat as StoreBeat}
 use Rattle.beat_tiers.specs.declared.item.BeatPoint.{BeatPoint}
@@ -49,6 +50,11 @@ kept_of h moment beat =
 pub record Follows (h : List Beat) (moment : ℕ) (beat : OpenBeat) : Type 0 where
   pub is_open : IsOpenBeat beat
   pub accepted : beat_refusal (registry_of h) (is_some (child h)) (last h) moment beat ≡ None
+
+-- a registry has nothing against a beat of this moment, which is this by the numbers that it has once the registry takes it
+pub record IsJudgedAt (registry : Registry) (moment : ℕ) (beat : OpenBeat) (numbered : NumberedBeat) : Type 0 where
+  pub moment_is : numbered.moment ≡ moment
+  pub judged : IsJudged registry beat numbered
 
 -- a registry has taken a beat of this moment, and this is the beat by its numbers
 pub record IsTakenBeat (before : Registry) (moment : ℕ) (beat : OpenBeat) (after : Registry) (numbered : NumberedBeat) : Type 0 where

@@ -18,7 +18,8 @@ use Rattle.entry_codec.specs.declared.entry.Entry.TheVariants as entry
 use Rattle.entry_codec.specs.declared.fault.EntryFault.{EntryFault}
 use Rattle.entry_codec.specs.Entries.{read_entry}
 use Rattle.beat_entries.specs.Copied.{copied_goes_on, defined_by}
-use Rattle.beat_entries.specs.Next.{goes_on, is_number, with_numbered}
+use Rattle.chart_registry.specs.Taking.{is_number}
+use Rattle.beat_entries.specs.Next.{goes_on, with_numbered}
 use Rattle.store_core.specs.declared.beats.beat.Beat.{Beat as StoreBeat}
 use Rattle.beat_tiers.specs.declared.item.BeatPoint.{BeatPoint}
 use Rattle.store_core.specs.Stands.{is_made, Stands}

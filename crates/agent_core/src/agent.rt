@@ -1,46 +1,38 @@
-ghost use Rattle.std.specs.Prelude.{◌≡◌, ◌<◌, ◌≤◌, ◌⊎◌, ◌∷◌, [], ℕ, List, None, true, false, IfOk, IfErr, IsErrOf, OnOk, OnErr};
-ghost use Rattle.host_model.specs.declared.file.File.{File as AFile};
-ghost use Rattle.host_model.specs.Past.{Event, IsDisk};
-ghost use Rattle.host_model.specs.Disks.{EveryDisk, reads_as};
-ghost use Rattle.host_model.specs.Cause.{HasCause};
+ghost use Rattle.std.specs.Prelude.{◌≡◌, ◌<◌, ◌≤◌, ◌⊎◌, ◌∷◌, ℕ, List, None, true, false, IfOk, IfErr, OnOk, OnErr};
+ghost use Rattle.host_model.specs.Past.{Event};
+ghost use Rattle.host_model.specs.Disks.{EveryDisk};
 ghost use Rattle.host_model.specs.Moments.{Throughout};
-ghost use Rattle.history.specs.History.{Beat as HistoryBeat, collected, health};
+ghost use Rattle.history.specs.declared.beat.OpenBeat.{OpenBeat as AnOpenBeat};
+ghost use Rattle.history.specs.History.{Beat as HistoryBeat, collected};
 ghost use Rattle.history.specs.Limits.{keeps_limits};
-ghost use Rattle.side_codec.specs.Size.{side_limit};
 ghost use Rattle.tier_settings.specs.declared.settings.Settings.{Settings as ASettings};
 ghost use Rattle.tier_settings.specs.Limits.{InLimits};
-ghost use Rattle.store_core.specs.disk.Holds.{OnlyOwn};
-ghost use Rattle.store_core.specs.disk.Shares.{share, IsWithin};
-ghost use Rattle.store_core.specs.Stands.{is_made, Stands};
 ghost use Rattle.agent_core.specs.Gaps.{side_share};
-ghost use Rattle.agent_core.specs.Notes.{IsDamaged};
 ghost use Rattle.beat_tiers.specs.State.{tier_floor};
 ghost use Rattle.store_core.specs.Counts.{raised};
-ghost use Rattle.store_core.specs.Damaged.{IsDamagedIn};
 ghost use Rattle.store_core.specs.Store.{is_due, IsReady, OpensAt};
 ghost use Rattle.store_core.specs.Stored.{Stored as AStored};
 ghost use Rattle.agent_core.specs.Answers.{floor_of_history};
 ghost use Rattle.agent_core.specs.Agent.{left_in};
 ghost use Rattle.alarm_core.specs.UpTo.{IsUpTo};
 ghost use Rattle.agent_core.specs.Alarms.{events_at, DefinesNothing, IsSteppingOf};
-ghost use Rattle.agent_core.specs.Calls.{Beats, Creates, Lines, Logs, Opens, ReadsAsBefore, SetsHealth};
+ghost use Rattle.agent_core.specs.Calls.{Beats, Creates, Lines, Logs, Opens, SetsHealth};
 ghost use Rattle.agent_core.specs.Fed.{IsFed};
-ghost use Rattle.agent_core.specs.Faults.{fault_after, HealthRefusedBy, IsCreating, IsOpening, IsUnreplayed, LeavesAll, RefusedBy, Reopens};
-ghost use Rattle.agent_core.specs.Health.{health_refusal};
-ghost use Rattle.agent_core.specs.Stands.{HoldsHistory, StandsForHealth, StandsForHistory, StandsForNew, StandsForOneOf};
+ghost use Rattle.agent_core.specs.Faults.{fault_after, IsUnreplayed};
+ghost use Rattle.agent_core.specs.Stands.{HoldsHistory, StandsForHistory};
 ghost use Rattle.agent_core.specs.Left.{AwaitsAlarms, IsLeftBy};
-ghost use Rattle.agent_core.specs.Notes.{notes_go_on, NotesGo};
+ghost use Rattle.agent_core.specs.Notes.{notes_go_on};
 ghost use Rattle.agent_core.specs.Replay.{HasReplayed, IsOpenedFor};
 ghost use Rattle.agent_core.specs.Roles.{copies};
-ghost use Rattle.agent_core.specs.Rules.{beat_refusal, HasLimits, IsOpenBeat};
+ghost use Rattle.agent_core.specs.Rules.{HasLimits, IsOpenBeat};
 ghost use Rattle.agent_core.specs.Steps.{IsOpenStep, Takes};
-ghost use Rattle.history.specs.Numbered.{numbered_beat};
 ghost use Rattle.history.specs.Registry.{same_chart, same_dimension};
 ghost use Rattle.history.specs.Regular.{AreApart};
-ghost use Rattle.beat_entries.specs.Rules.{content_refusal, with_beat};
+ghost use Rattle.beat_entries.specs.Rules.{with_beat};
+ghost use Rattle.beat_entries.specs.Taking.{IsJudged};
 ghost use Rattle.agent_core.specs.Bound.{GrowsWithin};
 ghost use Rattle.agent_core.specs.Keeping.{KeepsStore};
-ghost use Rattle.agent_core.specs.Kept.{Follows};
+ghost use Rattle.agent_core.specs.Kept.{Follows, IsJudgedAt};
 
 mod copies;
 mod questions;
@@ -111,7 +103,7 @@ fn raised(count: u64) -> u64
 }
 
 impl Agent {
-    ghost use Rattle.agent_core.specs.Agent.{id_of, AgentIsReady, Fits, HasLeft, IsAgentOf, IsNewAgent};
+    ghost use Rattle.agent_core.specs.Agent.{id_of, AgentIsReady, Fits, HasLeft, IsAgentOf};
 
     /// Makes the agent of a history without beats, and its database, where there is none.
     ///
@@ -125,44 +117,6 @@ impl Agent {
         requires { InLimits settings.now }
         ensures { Creates H.honest (H.seen host.old)
             settings.now result (H.seen host.new) }
-    {
-        Agent::make(alloc, host, settings)
-    }
-
-    fn make<H: Host>(alloc: Global, host: &mut H, settings: &Settings) -> Result<Agent, AgentFault>
-        requires { InLimits settings.now }
-        ensures any_moment { H.honest → Throughout (EveryDisk
-            (λ disk. IsDisk (H.seen host.old).past disk ⊎ StandsForNew settings.now disk))
-            (H.seen host.old).past (H.seen host.new).past }
-        ensures created { IfOk result
-            (λ agent. H.honest → IsAgentOf (H.seen host.new).past agent settings.now []) }
-        ensures ready { IfOk result (AgentIsReady H.honest (H.seen host.new).past) }
-        ensures new { IfOk result (IsNewAgent settings.now) }
-        ensures exists { IsErrOf result AgentFault.Exists → H.honest
-            → is_made (reads_as (H.seen host.old).past) ≡ true }
-        ensures none { OnOk result (H.honest → is_made (reads_as (H.seen host.old).past) ≡ false) }
-        ensures made { H.honest → is_made (reads_as (H.seen host.old).past) ≡ true
-            → (IsErrOf result AgentFault.Exists
-            ⊎ (IsErrOf result AgentFault.DiskFault ⊎ IsErrOf result AgentFault.Memory))
-            × ReadsAsBefore (H.seen host.old).past (H.seen host.new).past }
-        ensures made_moment { H.honest → is_made (reads_as (H.seen host.old).past) ≡ true
-            → Throughout (EveryDisk (IsDisk (H.seen host.old).past)) (H.seen host.old).past
-            (H.seen host.new).past }
-        ensures memory { IsErrOf result AgentFault.Memory → H.honest
-            → ReadsAsBefore (H.seen host.old).past (H.seen host.new).past }
-        ensures memory_moment { IsErrOf result AgentFault.Memory → H.honest
-            → Throughout (EveryDisk (IsDisk (H.seen host.old).past)) (H.seen host.old).past
-            (H.seen host.new).past }
-        ensures faults { IfErr result IsCreating }
-        ensures cause { HasCause (H.seen host.old).disk_faults (H.seen host.new).disk_faults
-            (IsErrOf result AgentFault.DiskFault) }
-        ensures bound { (limit : ℕ) → side_limit 0 ≤ limit → H.honest
-            → IsWithin (share settings.now limit) (H.seen host.old).past
-            → Throughout (IsWithin (share settings.now limit)) (H.seen host.old).past
-            (H.seen host.new).past }
-        ensures only_here { H.honest
-            → OnlyOwn (H.seen host.old).past (H.seen host.new).past }
-        ensures tells { (H.seen host.new).tell_faults ≡ (H.seen host.old).tell_faults }
     {
         let left = Left::new(alloc)?;
         let side = write_left(alloc, &left, 0)?;
@@ -198,54 +152,6 @@ impl Agent {
     pub fn open<H: Host>(alloc: Global, host: &mut H) -> Result<Agent, AgentFault>
         ensures { Opens H.honest (H.seen host.old)
             result (H.seen host.new) }
-    {
-        Agent::load(alloc, host)
-    }
-
-    fn load<H: Host>(alloc: Global, host: &mut H) -> Result<Agent, AgentFault>
-        ensures opened { IfOk result
-            (λ agent. H.honest → (set : ASettings) (h : List HistoryBeat)
-            → StandsForHistory set h (reads_as (H.seen host.old).past)
-            → IsAgentOf (H.seen host.new).past agent set h) }
-        ensures ready { IfOk result (AgentIsReady H.honest (H.seen host.new).past) }
-        ensures going { IfOk result (λ agent. agent.fault ≡ None) }
-        ensures left { IfOk result
-            (λ agent. H.honest → (stored : AStored)
-            → Stands stored (reads_as (H.seen host.old).past) → HasLeft stored agent) }
-        ensures any_moment { H.honest
-            → Throughout (EveryDisk (IsDisk (H.seen host.old).past)) (H.seen host.old).past
-            (H.seen host.new).past }
-        ensures same { H.honest → (file : AFile)
-            → reads_as (H.seen host.new).past file ≡ reads_as (H.seen host.old).past file }
-        ensures images { OnOk result (H.honest → (set : ASettings) (h : List HistoryBeat)
-            → StandsForHistory set h (reads_as (H.seen host.old).past)
-            → EveryDisk (StandsForHistory set h) (H.seen host.new).past) }
-        ensures stands { H.honest → (set : ASettings) (h : List HistoryBeat)
-            → StandsForHistory set h (reads_as (H.seen host.old).past)
-            → IfErr result (λ fault. (fault ≡ AgentFault.DiskFault) ⊎ (fault ≡ AgentFault.Memory)) }
-        ensures none { IsErrOf result AgentFault.NotADatabase → H.honest
-            → is_made (reads_as (H.seen host.old).past) ≡ false }
-        ensures some { OnOk result (H.honest → is_made (reads_as (H.seen host.old).past) ≡ true) }
-        ensures damaged { (part : ℕ) → part ≤ 4 → IsErrOf result (AgentFault.Damaged part)
-            → H.honest → IsDamaged (reads_as (H.seen host.old).past) }
-        ensures parts { (part : ℕ) → part ≤ 3 → IsErrOf result (AgentFault.Damaged part)
-            → H.honest → IsDamagedIn part (reads_as (H.seen host.old).past) }
-        ensures first { (part other : ℕ) → IsErrOf result (AgentFault.Damaged part) → H.honest
-            → IsDamagedIn other (reads_as (H.seen host.old).past) → other ≡ part }
-        ensures made { (part : ℕ) → IsErrOf result (AgentFault.Damaged part) → H.honest
-            → is_made (reads_as (H.seen host.old).past) ≡ true }
-        ensures notes { OnOk result (H.honest → NotesGo true (reads_as (H.seen host.old).past)) }
-        ensures damaged_notes { IsErrOf result (AgentFault.Damaged 5) → H.honest
-            → NotesGo true (reads_as (H.seen host.old).past) → ⊥ }
-        ensures faults { IfErr result IsOpening }
-        ensures cause { HasCause (H.seen host.old).disk_faults (H.seen host.new).disk_faults
-            (IsErrOf result AgentFault.DiskFault) }
-        ensures bound { (shares : AFile → ℕ) → H.honest
-            → IsWithin shares (H.seen host.old).past
-            → Throughout (IsWithin shares) (H.seen host.old).past (H.seen host.new).past }
-        ensures only_here { H.honest
-            → OnlyOwn (H.seen host.old).past (H.seen host.new).past }
-        ensures tells { (H.seen host.new).tell_faults ≡ (H.seen host.old).tell_faults }
     {
         match open_store(alloc, host) {
             Ok(store) => Agent::replayed(alloc, store, host),
@@ -394,59 +300,6 @@ impl Agent {
         ensures { Beats H.honest (H.seen host.old) self.old
             beat.now moment result (H.seen host.new) self.new }
     {
-        self.store_beat(host, beat, moment)
-    }
-
-    fn store_beat<H: Host>(
-        &mut self,
-        host: &mut H,
-        beat: &OpenBeat,
-        moment: u32,
-    ) -> Result<Reply, AgentFault>
-        requires ready { AgentIsReady H.honest (H.seen host.old).past self.old }
-        requires is_open { IsOpenBeat beat.now }
-        ensures any_moment { H.honest → (set : ASettings) (h : List HistoryBeat)
-            → IsAgentOf (H.seen host.old).past self.old set h
-            → Throughout (EveryDisk (StandsForOneOf set h
-            (beat_refusal self.old.registry (copies self.old.role) self.old.last moment beat.now)
-            (collected moment beat.now ∷ h))) (H.seen host.old).past (H.seen host.new).past }
-        ensures done { OnOk result
-            (H.honest → (set : ASettings) (h : List HistoryBeat)
-            → IsAgentOf (H.seen host.old).past self.old set h
-            → IsAgentOf (H.seen host.new).past self.new set (collected moment beat.now ∷ h)) }
-        ensures number { IfOk result (λ reply. reply.count ≡ self.new.count) }
-        ensures events { IfOk result
-            (λ reply. H.honest → (set : ASettings) (h : List HistoryBeat)
-            → IsAgentOf (H.seen host.old).past self.old set h
-            → reply.events ≡ events_at set (collected moment beat.now ∷ h)) }
-        ensures counts { OnOk result (self.new.count ≡ raised self.old.count) }
-        ensures last { OnOk result (self.new.last ≡ moment) }
-        ensures refused { self.old.fault ≡ None
-            → RefusedBy
-            (beat_refusal self.old.registry (copies self.old.role) self.old.last moment beat.now)
-            result }
-        ensures untouched { is_due self.old.store ≡ false
-            → self.new.store.body ≡ self.old.store.body }
-        ensures unchanged { IfErr result
-            (λ fault. LeavesAll fault → (self.new ≡ self.old) × (host.new ≡ host.old)) }
-        ensures fault { self.new.fault ≡ fault_after self.old.fault result }
-        ensures reopens { Reopens self.old.fault result }
-        ensures stays { OnErr result
-            ((self.new.count ≡ self.old.count) × (self.new.last ≡ self.old.last)) }
-        ensures id { id_of self.new ≡ id_of self.old }
-        ensures ready { AgentIsReady H.honest (H.seen host.new).past self.new }
-        ensures cause { HasCause (H.seen host.old).disk_faults (H.seen host.new).disk_faults
-            (IsErrOf result AgentFault.DiskFault) }
-        ensures bound { H.honest → (set : ASettings) (h : List HistoryBeat)
-            → IsAgentOf (H.seen host.old).past self.old set h → (limit : ℕ)
-            → side_share set ≤ limit
-            → GrowsWithin set limit (H.seen host.old).past self.old.store
-            (H.seen host.new).past self.new.store }
-        ensures gaps { self.new.gaps ≡ self.old.gaps }
-        ensures only_here { H.honest
-            → OnlyOwn (H.seen host.old).past (H.seen host.new).past }
-        ensures tells { (H.seen host.new).tell_faults ≡ (H.seen host.old).tell_faults }
-    {
         if let Some(cause) = self.fault {
             return Err(AgentFault::Reopen(cause));
         }
@@ -466,7 +319,7 @@ impl Agent {
                 return Err(AgentFault::Memory);
             }
         };
-        match self.add_beat(host, beat, moment, &numbered) {
+        match self.add_beat(host, &numbered) {
             Ok(()) => {
                 let stepping = Stepping::Beat(moment, defines_some(beat));
                 self.tell(host, stepping, moment)
@@ -478,36 +331,30 @@ impl Agent {
         }
     }
 
-    /// Adds a beat that was judged: first makes a checkpoint where one is due, and then has the registry take what the
-    /// beat defines. The alarms have still to follow it. After an `Err` nothing of the store and of what was left is
-    /// of use.
-    fn add_beat<H: Host>(
-        &mut self,
-        host: &mut H,
-        beat: &OpenBeat,
-        moment: u32,
-        numbered: &NumberedBeat,
-    ) -> Result<(), AgentFault>
+    /// Adds a beat that was judged, by number: first makes a checkpoint where one is due, and then has the registry take
+    /// what the beat defines. The alarms have still to follow it. After an `Err` nothing of the store and of what was left
+    /// is of use.
+    fn add_beat<H: Host>(&mut self, host: &mut H, numbered: &NumberedBeat) -> Result<(), AgentFault>
         requires fits { Fits H.honest (H.seen host.old).past self.old }
-        requires is_open { IsOpenBeat beat.now }
-        requires later { self.old.last < moment }
-        requires content { content_refusal self.old.registry moment beat.now ≡ None }
-        requires numbered { numbered.now
-            ≡ numbered_beat (with_beat self.old.registry beat.now) moment beat.now }
-        ensures any_moment { H.honest → (set : ASettings) (h : List HistoryBeat)
+        requires later { self.old.last < numbered.now.moment }
+        requires judged { (beat : AnOpenBeat) × IsJudged self.old.registry beat numbered.now }
+        ensures any_moment { H.honest → (moment : ℕ) (beat : AnOpenBeat) (set : ASettings)
+            (h : List HistoryBeat) → IsJudgedAt self.old.registry moment beat numbered.now
             → HoldsHistory (H.seen host.old).past self.old.store set h
-            → IsLeftBy set h (left_in self.old) → Follows h moment beat.now
+            → IsLeftBy set h (left_in self.old) → Follows h moment beat
             → Throughout (EveryDisk (λ disk. StandsForHistory set h disk
-            ⊎ StandsForHistory set (collected moment beat.now ∷ h) disk)) (H.seen host.old).past
+            ⊎ StandsForHistory set (collected moment beat ∷ h) disk)) (H.seen host.old).past
             (H.seen host.new).past }
-        ensures done { OnOk result (H.honest → (set : ASettings) (h : List HistoryBeat)
+        ensures done { OnOk result (H.honest → (moment : ℕ) (beat : AnOpenBeat)
+            (set : ASettings) (h : List HistoryBeat)
+            → IsJudgedAt self.old.registry moment beat numbered.now
             → HoldsHistory (H.seen host.old).past self.old.store set h
-            → IsLeftBy set h (left_in self.old) → Follows h moment beat.now
-            → HoldsHistory (H.seen host.new).past self.new.store set
-            (collected moment beat.now ∷ h)
-            × AwaitsAlarms set h (collected moment beat.now) (left_in self.new)) }
-        ensures registry { OnOk result
-            (self.new.registry ≡ with_beat self.old.registry beat.now) }
+            → IsLeftBy set h (left_in self.old) → Follows h moment beat
+            → HoldsHistory (H.seen host.new).past self.new.store set (collected moment beat ∷ h)
+            × AwaitsAlarms set h (collected moment beat) (left_in self.new)) }
+        ensures registry { OnOk result ((beat : AnOpenBeat)
+            → IsJudged self.old.registry beat numbered.now
+            → self.new.registry ≡ with_beat self.old.registry beat) }
         ensures charts { OnOk result (AreApart same_chart self.new.registry.charts) }
         ensures dimensions { OnOk result
             (AreApart same_dimension self.new.registry.dimensions) }
@@ -523,7 +370,7 @@ impl Agent {
         ensures gaps { self.new.gaps ≡ self.old.gaps }
         ensures keeps { KeepsStore H.honest (H.seen host.old) self.old.store result
             (H.seen host.new) self.new.store }
-        ensures stored { OnOk result (self.new.store.tiers.last ≡ moment) }
+        ensures stored { OnOk result (self.new.store.tiers.last ≡ numbered.now.moment) }
         ensures stays { self.new ≡ record self.old {
           store = self.new.store;
           registry = self.new.registry;
@@ -534,10 +381,8 @@ impl Agent {
         } }
     {
         make_room(self.alloc, &mut self.store, &self.left, host)?;
-        match define_beat(&mut self.left.registry, moment, beat, numbered) {
-            Ok(()) => add(self.alloc, &mut self.store, &mut self.left, host, numbered),
-            Err(_) => Err(AgentFault::Memory),
-        }
+        define_beat(&mut self.left.registry, numbered)?;
+        add(self.alloc, &mut self.store, &mut self.left, host, numbered)
     }
 
     /// Has the alarms follow a beat that is stored, and counts it. This is then the last moment.
@@ -602,50 +447,6 @@ impl Agent {
         requires ready { AgentIsReady H.honest (H.seen host.old).past self.old }
         ensures { SetsHealth H.honest (H.seen host.old) self.old
             text.now result (H.seen host.new) self.new }
-    {
-        self.change_health(host, text)
-    }
-
-    fn change_health<H: Host>(&mut self, host: &mut H, text: &[u8]) -> Result<Reply, AgentFault>
-        requires ready { AgentIsReady H.honest (H.seen host.old).past self.old }
-        ensures any_moment { H.honest → (set : ASettings) (h : List HistoryBeat)
-            → IsAgentOf (H.seen host.old).past self.old set h
-            → Throughout (EveryDisk (StandsForHealth set h text.now)) (H.seen host.old).past
-            (H.seen host.new).past }
-        ensures done { OnOk result
-            (H.honest → (set : ASettings) (h : List HistoryBeat)
-            → IsAgentOf (H.seen host.old).past self.old set h
-            → IsAgentOf (H.seen host.new).past self.new set (health text.now ∷ h)) }
-        ensures number { IfOk result (λ reply. reply.count ≡ self.new.count) }
-        ensures events { IfOk result
-            (λ reply. H.honest → (set : ASettings) (h : List HistoryBeat)
-            → IsAgentOf (H.seen host.old).past self.old set h
-            → reply.events ≡ events_at set (health text.now ∷ h)) }
-        ensures counts { OnOk result (self.new.count ≡ raised self.old.count) }
-        ensures last { self.new.last ≡ self.old.last }
-        ensures registry { self.new.registry ≡ self.old.registry }
-        ensures refused { self.old.fault ≡ None
-            → HealthRefusedBy (health_refusal text.now) result }
-        ensures untouched { is_due self.old.store ≡ false
-            → self.new.store.body ≡ self.old.store.body }
-        ensures unchanged { IfErr result
-            (λ fault. LeavesAll fault → (self.new ≡ self.old) × (host.new ≡ host.old)) }
-        ensures fault { self.new.fault ≡ fault_after self.old.fault result }
-        ensures reopens { Reopens self.old.fault result }
-        ensures stays { OnErr result (self.new.count ≡ self.old.count) }
-        ensures id { id_of self.new ≡ id_of self.old }
-        ensures ready { AgentIsReady H.honest (H.seen host.new).past self.new }
-        ensures cause { HasCause (H.seen host.old).disk_faults (H.seen host.new).disk_faults
-            (IsErrOf result AgentFault.DiskFault) }
-        ensures bound { H.honest → (set : ASettings) (h : List HistoryBeat)
-            → IsAgentOf (H.seen host.old).past self.old set h → (limit : ℕ)
-            → side_share set ≤ limit
-            → GrowsWithin set limit (H.seen host.old).past self.old.store
-            (H.seen host.new).past self.new.store }
-        ensures gaps { self.new.gaps ≡ self.old.gaps }
-        ensures only_here { H.honest
-            → OnlyOwn (H.seen host.old).past (H.seen host.new).past }
-        ensures tells { (H.seen host.new).tell_faults ≡ (H.seen host.old).tell_faults }
     {
         if let Some(cause) = self.fault {
             return Err(AgentFault::Reopen(cause));

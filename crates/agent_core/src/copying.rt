@@ -1,13 +1,12 @@
 //! What the message of a child defines, and what a store keeps of its beats.
 
-ghost use Rattle.std.specs.Prelude.{◌≡◌, [], ◌++◌, ◌<◌, ◌≤◌, ◌^◌, ℕ, true, length, map, filter_map, All, Some, IfOk, OnOk};
+ghost use Rattle.std.specs.Prelude.{◌≡◌, [], ◌++◌, ◌<◌, ◌≤◌, ◌^◌, true, length, map, filter_map, All, Some, IfOk, OnOk};
 ghost use Rattle.std.specs.List.{cons_option, AllByRecursion};
 ghost use Rattle.std.specs.List.Sorted.{IsNonDecreasingBy, IsPermutation};
-ghost use Rattle.std.specs.Option.{option_and_then};
 ghost use Rattle.history.specs.Limits.{chart_keeps_limits, dimension_keeps_limits};
 ghost use Rattle.history.specs.Registry.{Registry as ARegistry, same_dimension, series_of};
 ghost use Rattle.history.specs.Regular.{AreApart};
-ghost use Rattle.beat_points.specs.Points.{ArePointsIn, AreRising};
+ghost use Rattle.beat_points.specs.Points.{AreRising};
 ghost use Rattle.storage_number.specs.Word.{is_word};
 ghost use Rattle.entry_codec.specs.declared.entry.Entry.TheVariants as entry;
 ghost use Rattle.entry_codec.specs.Charts.{IsCopiedChart};
@@ -16,15 +15,14 @@ ghost use Rattle.entry_codec.specs.Entries.{entry_bytes, is_collected_canonical,
 ghost use Rattle.entry_codec.specs.Words.{IsCopiedWord};
 ghost use Rattle.store_core.specs.beats.Beats.{beat_bytes, InForm};
 ghost use Rattle.beat_entries.specs.Copied.{told_chart, told_dimension};
-ghost use Rattle.replication.specs.Names.{named_beat, named_point};
 ghost use Rattle.replication.specs.Verdict.{is_stored};
 ghost use Rattle.link_frames.specs.DataForm.{has_rising_places, has_storage_numbers};
 ghost use Rattle.link_frames.specs.DataForm.{AreApart as AreNamesApart};
-ghost use Rattle.agent_core.specs.Copying.{beats_of, defined_chart, defined_dimension, definitions_in, numbered_words};
+ghost use Rattle.agent_core.specs.Copying.{beats_of, defined_chart, defined_dimension, definitions_in};
 ghost use Rattle.agent_core.specs.Kept.{gap_entry};
 ghost use Rattle.agent_core.specs.Notes.{names_series};
 ghost use Rattle.agent_core.specs.Rules.{HasLimits};
-ghost use Rattle.agent_core.specs.Storing.{entry_word, numbered_point, point_word, sent_entry, sent_kept};
+ghost use Rattle.agent_core.specs.Storing.{defining, entry_word, named_series, sent_entry, sent_kept, series_named, series_word};
 
 use crate::keeping::unwritten;
 use crate::points::stored_points;
@@ -37,8 +35,8 @@ use entry_codec::{
 };
 use fixed_num::Text;
 use history::{
-    ChartDef, ChartDefList, MOST_DIMENSIONS, NumberedBeat, NumberedChart, NumberedDimension,
-    OpenBeat, OpenDim, OpenDimList, OpenRowList,
+    ChartDef, ChartDefList, MOST_DIMENSIONS, NumberedChart, NumberedDimension, OpenBeat, OpenDim,
+    OpenDimList, OpenRowList,
 };
 use replication::{
     Beat as SentBeat, ChartName, Data, DimName, Names, SeriesWord as SentWord, Verdict,
@@ -153,31 +151,53 @@ fn known_series(registry: &Registry, chart: &str, id: &str) -> Option<u32>
     }
 }
 
-/// A word by the number of its series, if its dimension has a name and the registry has that.
-fn numbered_word(registry: &Registry, names: &Names, word: &SentWord) -> Option<SeriesWord>
-    ensures { result
-        ≡ option_and_then (numbered_point registry.now) (named_point names.now word.now) }
+/// The series that the name of a dimension means, if its chart has a name and the registry has it.
+fn series_named(registry: &Registry, names: &Names, dimension: &DimName) -> Option<u32>
+    ensures { result ≡ series_named registry.now names.now dimension.now }
 {
-    let dimension = names.dimensions.as_slice().get(word.series as usize)?;
     let chart = names.charts.as_slice().get(dimension.chart as usize)?;
-    let series = known_series(registry, chart.id.as_str(), dimension.id.as_str())?;
-    Some(SeriesWord {
-        series,
-        word: word.word,
-    })
+    known_series(registry, chart.id.as_str(), dimension.id.as_str())
 }
 
-/// Adds a word, if it has a number.
-fn push_word(
-    words: &mut Vec<SeriesWord>,
+/// The series of the names of dimensions, by place. Each name is looked up once.
+pub(crate) fn named_series(
+    alloc: Global,
     registry: &Registry,
     names: &Names,
+) -> Result<Vec<Option<u32>>, AllocError>
+    ensures { IfOk result (λ series. series.items ≡ named_series registry.now names.now) }
+{
+    let dimensions = names.dimensions.as_slice();
+    let mut series = Vec::with_capacity(alloc, dimensions.len())?;
+    for dimension in dimensions {
+        series.push(series_named(registry, names, dimension))?;
+    }
+    Ok(series)
+}
+
+/// A word by the series of the name at its place, if that has one.
+fn series_word(series: &[Option<u32>], word: &SentWord) -> Option<SeriesWord>
+    ensures { result ≡ series_word series.now word.now }
+{
+    match series.get(word.series as usize) {
+        Some(Some(number)) => Some(SeriesWord {
+            series: *number,
+            word: word.word,
+        }),
+        Some(None) | None => None,
+    }
+}
+
+/// Adds a word, if it has a series.
+fn push_word(
+    words: &mut Vec<SeriesWord>,
+    series: &[Option<u32>],
     word: &SentWord,
 ) -> Result<(), AllocError>
-    ensures { OnOk result (words.new.items ≡ words.old.items ++ cons_option
-        (option_and_then (numbered_point registry.now) (named_point names.now word.now)) []) }
+    ensures { OnOk result
+        (words.new.items ≡ words.old.items ++ cons_option (series_word series.now word.now) []) }
 {
-    if let Some(numbered) = numbered_word(registry, names, word) {
+    if let Some(numbered) = series_word(series, word) {
         words.push(numbered)?;
     }
     Ok(())
@@ -185,17 +205,15 @@ fn push_word(
 
 fn gather_words(
     alloc: Global,
-    registry: &Registry,
-    names: &Names,
+    series: &[Option<u32>],
     words: &[SentWord],
 ) -> Result<Vec<SeriesWord>, AllocError>
-    ensures { IfOk result (λ gathered. gathered.items
-        ≡ filter_map (λ word. option_and_then (numbered_point registry.now)
-        (named_point names.now word)) words.now) }
+    ensures { IfOk result
+        (λ gathered. gathered.items ≡ filter_map (series_word series.now) words.now) }
 {
     let mut gathered = Vec::with_capacity(alloc, words.len())?;
     for word in words {
-        push_word(&mut gathered, registry, names, word)?;
+        push_word(&mut gathered, series, word)?;
     }
     Ok(gathered)
 }
@@ -209,25 +227,17 @@ fn sort_words(mut words: Vec<SeriesWord>) -> Result<Vec<SeriesWord>, AllocError>
     Ok(words)
 }
 
-/// The words of a beat, by the numbers of a registry that has its series and in their order.
+/// The words of a beat by the series of the names of its message, in the order of their numbers.
 fn numbered_words(
     alloc: Global,
-    registry: &Registry,
-    names: &Names,
+    series: &[Option<u32>],
     beat: &SentBeat,
 ) -> Result<Vec<SeriesWord>, AllocError>
-    requires own { AreApart same_dimension registry.now.dimensions }
-    requires few { length registry.now.dimensions ≤ MOST_DIMENSIONS }
-    requires names { AreNamesApart names.now }
-    requires places { has_rising_places beat.now ≡ true }
-    requires stored { has_storage_numbers beat.now ≡ true }
-    ensures words { IfOk result (λ words. words.items
-        ≡ map point_word (numbered_words registry.now (named_beat names.now beat.now).points)) }
-    ensures there { IfOk result (λ words. ArePointsIn registry.now words.items) }
-    ensures rising { IfOk result (λ words. AreRising words.items) }
-    ensures few { IfOk result (λ words. length words.items ≤ MOST_DIMENSIONS) }
+    ensures same { IfOk result (λ words.
+        IsPermutation (filter_map (series_word series.now) beat.now.words) words.items) }
+    ensures rises { IfOk result (λ words. IsNonDecreasingBy (λ word. word.series) words.items) }
 {
-    sort_words(gather_words(alloc, registry, names, beat.words.as_slice())?)
+    sort_words(gather_words(alloc, series, beat.words.as_slice())?)
 }
 
 // ---- its entry
@@ -321,19 +331,20 @@ fn copied_entry(
     alloc: Global,
     child: u64,
     moment: u32,
-    defines: &NumberedBeat,
+    charts: &[NumberedChart],
+    dimensions: &[NumberedDimension],
     words: &[SeriesWord],
 ) -> Result<Entry, AllocError>
-    requires within { IsWithinLimits defines.now }
-    requires canonical { is_collected_canonical defines.now ≡ true }
+    requires within { IsWithinLimits (defining charts.now dimensions.now) }
+    requires canonical { is_collected_canonical (defining charts.now dimensions.now) ≡ true }
     requires rising { AreRising words.now }
     requires stored { All (λ word. is_word word.word ≡ true) words.now }
     requires few { length words.now ≤ MOST_DIMENSIONS }
     ensures entry { IfOk result (λ made. made ≡ entry.Copied (record {
       child = child;
       moment = moment;
-      charts = map told_chart defines.now.charts;
-      dimensions = map told_dimension defines.now.dimensions;
+      charts = map told_chart charts.now;
+      dimensions = map told_dimension dimensions.now;
       words = map entry_word words.now;
     })) }
     ensures spelt { IfOk result HasSpelling }
@@ -341,19 +352,21 @@ fn copied_entry(
     Ok(Entry::Copied(Copied {
         child,
         moment,
-        charts: told_charts(alloc, defines.charts.as_slice())?,
-        dimensions: told_dimensions(alloc, defines.dimensions.as_slice())?,
+        charts: told_charts(alloc, charts)?,
+        dimensions: told_dimensions(alloc, dimensions)?,
         words: entry_words(alloc, words)?,
     }))
 }
 
 /// What a store keeps of a beat of a message that defines this, where the registry has the definitions of the
-/// message.
+/// message, and these are the series of its names.
 pub(crate) fn kept_copy(
     alloc: Global,
     registry: &Registry,
     message: &Data,
-    defines: &NumberedBeat,
+    series: &[Option<u32>],
+    charts: &[NumberedChart],
+    dimensions: &[NumberedDimension],
     beat: &SentBeat,
 ) -> Result<Beat, AllocError>
     requires own { AreApart same_dimension registry.now.dimensions }
@@ -361,21 +374,29 @@ pub(crate) fn kept_copy(
     requires names { AreNamesApart message.now.names }
     requires places { has_rising_places beat.now ≡ true }
     requires words { has_storage_numbers beat.now ≡ true }
-    requires within { IsWithinLimits defines.now }
-    requires canonical { is_collected_canonical defines.now ≡ true }
+    requires series { series.now ≡ named_series registry.now message.now.names }
+    requires within { IsWithinLimits (defining charts.now dimensions.now) }
+    requires canonical { is_collected_canonical (defining charts.now dimensions.now) ≡ true }
     requires later { 0 < beat.now.moment }
-    ensures kept { IfOk result
-        (λ kept. kept ≡ sent_kept registry.now message.now defines.now beat.now) }
-    ensures spelt { OnOk result (HasSpelling
-        (entry.Copied (sent_entry registry.now message.now defines.now beat.now))) }
+    ensures kept { IfOk result (λ kept.
+        kept ≡ sent_kept registry.now message.now charts.now dimensions.now beat.now) }
+    ensures spelt { OnOk result (HasSpelling (entry.Copied
+        (sent_entry registry.now message.now charts.now dimensions.now beat.now))) }
     ensures moment { IfOk result (λ kept. kept.moment ≡ Some beat.now.moment) }
     ensures named { IfOk result (λ kept. names_series registry.now kept.points ≡ true) }
     ensures form { IfOk result InForm }
     ensures size { IfOk result (λ kept. length (beat_bytes kept) ≤ 2 ^ 26) }
 {
-    let words = numbered_words(alloc, registry, &message.names, beat)?;
+    let words = numbered_words(alloc, series, beat)?;
     let points = stored_points(alloc, registry, words.as_slice())?;
-    let entry = copied_entry(alloc, message.child, beat.moment, defines, words.as_slice())?;
+    let entry = copied_entry(
+        alloc,
+        message.child,
+        beat.moment,
+        charts,
+        dimensions,
+        words.as_slice(),
+    )?;
     match write_entry(alloc, &entry) {
         Ok(note) => Ok(Beat {
             moment: Some(beat.moment),

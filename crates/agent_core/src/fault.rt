@@ -1,8 +1,11 @@
 ghost use Rattle.std.specs.Prelude.{◌≡◌, Some, IsSome};
-ghost use Rattle.agent_core.specs.Faults.{fault_of};
+ghost use Rattle.agent_core.specs.Faults.{fault_of, unread};
+ghost use Rattle.agent_core.specs.declared.fault.AgentFault.TheVariants.{Memory};
 
+use beat_entries::EntryRefusal;
 use health_config::ConfigFault;
 use history::BlockFault;
+use std::alloc::{AllocError, AllocFailed};
 use store_core::{StoreFault, Why};
 use thiserror::Error;
 
@@ -52,6 +55,34 @@ impl AgentFault {
             | AgentFault::Damaged(_)
             | AgentFault::Reopen(_)
             | AgentFault::Exists => None,
+        }
+    }
+}
+
+impl From<AllocError> for AgentFault {
+    ghost from_gives = { λ _ fault. fault ≡ Memory };
+
+    fn from(_error: AllocError) -> AgentFault {
+        AgentFault::Memory
+    }
+}
+
+impl<T: Drop> From<AllocFailed<T>> for AgentFault {
+    ghost from_gives = { λ _ fault. fault ≡ Memory };
+
+    fn from(_error: AllocFailed<T>) -> AgentFault {
+        AgentFault::Memory
+    }
+}
+
+/// What is stored and does not go on is damaged.
+impl From<EntryRefusal> for AgentFault {
+    ghost from_gives = { λ refusal fault. fault ≡ unread refusal };
+
+    fn from(refusal: EntryRefusal) -> AgentFault {
+        match refusal {
+            EntryRefusal::NotNext => AgentFault::Damaged(5),
+            EntryRefusal::Memory => AgentFault::Memory,
         }
     }
 }

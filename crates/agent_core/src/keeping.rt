@@ -25,7 +25,7 @@ ghost use Rattle.agent_core.specs.Stands.{HoldsHistory, StandsForHistory};
 ghost use Rattle.agent_core.specs.Left.{AwaitsAlarms, IsLeftBy};
 ghost use Rattle.agent_core.specs.Health.{health_refusal};
 ghost use Rattle.agent_core.specs.Notes.{names_series};
-ghost use Rattle.agent_core.specs.Replay.{HasRoom, HasSeenBeat, HasSeenCopy, HasTakenRows};
+ghost use Rattle.agent_core.specs.Replay.{HasSeenBeat, HasSeenCopy, HasTakenRows};
 ghost use Rattle.agent_core.specs.Rules.{HasLimits};
 
 use crate::fault::{AgentFault, store_fault};
@@ -226,10 +226,8 @@ pub(crate) fn add_health<H: Host>(
     ensures last { OnOk result (store.new.tiers.last ≡ store.old.tiers.last) }
 {
     make_room(alloc, store, left, host)?;
-    match health_beat(alloc, text) {
-        Ok(kept) => commit(store, host, &kept),
-        Err(_) => Err(AgentFault::Memory),
-    }
+    let kept = health_beat(alloc, text)?;
+    commit(store, host, &kept)
 }
 
 /// Takes the rows of a numbered beat as the last ones.
@@ -240,8 +238,6 @@ pub(crate) fn take_rows(
 ) -> Result<(), AgentFault>
     requires { IsThere registry.now beat.now }
     ensures taken { OnOk result (HasTakenRows registry.now last_rows.old last_rows.new beat.now) }
-    ensures room { OnOk result
-        (beat.now.rows ≡ [] → HasRoom registry.now last_rows.old last_rows.new) }
     ensures memory { IfErr result (λ fault. fault ≡ AgentFault.Memory) }
 {
     match last_rows.apply(registry, beat) {
@@ -267,10 +263,8 @@ pub(crate) fn see_beat(
     ensures memory { IfErr result (λ fault. fault ≡ AgentFault.Memory) }
 {
     let (latest, registry) = (&mut left.latest, &left.registry);
-    match see_collected(alloc, latest, registry, numbered, points, before) {
-        Ok(()) => Ok(()),
-        Err(_) => Err(AgentFault::Memory),
-    }
+    see_collected(alloc, latest, registry, numbered, points, before)?;
+    Ok(())
 }
 
 /// Takes the points of a copied beat at this moment as what was last seen. `before` is the last moment before it.
@@ -289,10 +283,8 @@ pub(crate) fn see_copy(
     ensures memory { IfErr result (λ fault. fault ≡ AgentFault.Memory) }
 {
     let (latest, registry) = (&mut left.latest, &left.registry);
-    match see_copied(alloc, latest, registry, moment, points, before) {
-        Ok(()) => Ok(()),
-        Err(_) => Err(AgentFault::Memory),
-    }
+    see_copied(alloc, latest, registry, moment, points, before)?;
+    Ok(())
 }
 
 /// Whether a beat defines charts or dimensions.
@@ -352,9 +344,7 @@ pub(crate) fn add<H: Host>(
         store.new }
     ensures last { OnOk result (store.new.tiers.last ≡ numbered.now.moment) }
 {
-    let Ok(kept) = stored_beat(alloc, &left.registry, &left.last_rows, numbered) else {
-        return Err(AgentFault::Memory);
-    };
+    let kept = stored_beat(alloc, &left.registry, &left.last_rows, numbered)?;
     let before = store.last();
     commit(store, host, &kept)?;
     take_rows(&mut left.last_rows, &left.registry, numbered)?;

@@ -1,13 +1,10 @@
 //! What is taken of the note of a kept beat.
 
-ghost use Rattle.std.specs.Prelude.{◌≡◌, ◌↔◌, ◌⊎◌, [], ◌∷◌, List, Some, None, is_none, true, false, IfOk, IfErr, OnOk, OnErr};
+ghost use Rattle.std.specs.Prelude.{◌≡◌, ◌↔◌, ◌⊎◌, [], List, Some, None, is_none, true, false, IfOk, IfErr, OnOk, OnErr};
 ghost use Rattle.history.specs.History.{Beat as HistoryBeat, last};
 ghost use Rattle.history.specs.Numbered.{IsThere};
 ghost use Rattle.history.specs.Registry.{same_chart, same_dimension};
 ghost use Rattle.history.specs.Regular.{AreApart};
-ghost use Rattle.beat_entries.specs.Copied.{copied_goes_on, defined_by};
-ghost use Rattle.beat_entries.specs.Next.{goes_on, with_numbered};
-ghost use Rattle.beat_entries.specs.declared.refusal.EntryRefusal.TheVariants.{Memory as NoMemory, NotNext};
 ghost use Rattle.beat_tiers.specs.Tiers.{IsTier};
 ghost use Rattle.tier_settings.specs.declared.settings.Settings.{Settings as ASettings};
 ghost use Rattle.tier_settings.specs.Settings.{first_tier};
@@ -26,7 +23,7 @@ use crate::alarming::Stepping;
 use crate::fault::AgentFault;
 use crate::keeping::{see_beat, see_copy, take_rows};
 use crate::left::{Left, Role};
-use beat_entries::{EntryRefusal, define, define_copied};
+use beat_entries::{define, define_copied};
 use chart_registry::Registry;
 use entry_codec::{Copied, Entry, EntryFault, Gap, read_entry};
 use health_config::{Config, ConfigFault};
@@ -70,57 +67,6 @@ fn entry_in(alloc: Global, kept: &Beat) -> Result<Entry, AgentFault>
     }
 }
 
-/// Why an entry is not taken: it does not go on, or memory ran out.
-fn fault_of(refusal: EntryRefusal) -> AgentFault
-    ensures damaged { result ≡ AgentFault.Damaged 5 → refusal ≡ NotNext }
-    ensures memory { result ≡ AgentFault.Memory → refusal ≡ NoMemory }
-    ensures faults { (result ≡ AgentFault.Memory) ⊎ (result ≡ AgentFault.Damaged 5) }
-{
-    match refusal {
-        EntryRefusal::NotNext => AgentFault::Damaged(5),
-        EntryRefusal::Memory => AgentFault::Memory,
-    }
-}
-
-/// Takes what an entry defines, or the database is damaged.
-fn define_entry(registry: &mut Registry, entry: &NumberedBeat) -> Result<(), AgentFault>
-    ensures defined { OnOk result (registry.new ≡ with_numbered registry.old entry.now) }
-    ensures there { OnOk result (IsThere registry.new entry.now) }
-    ensures next { OnOk result (goes_on registry.old entry.now ≡ true) }
-    ensures refused { IfErr result
-        (λ fault. fault ≡ AgentFault.Damaged 5 → goes_on registry.old entry.now ≡ false) }
-    ensures faults { IfErr result
-        (λ fault. (fault ≡ AgentFault.Memory) ⊎ (fault ≡ AgentFault.Damaged 5)) }
-{
-    match define(registry, entry) {
-        Ok(()) => Ok(()),
-        Err(refusal) => Err(fault_of(refusal)),
-    }
-}
-
-/// Takes what the entry of a copied beat defines, and gives it as a beat without rows, or the database is
-/// damaged.
-fn define_copy(
-    alloc: Global,
-    registry: &mut Registry,
-    entry: &Copied,
-) -> Result<NumberedBeat, AgentFault>
-    ensures beat { IfOk result (λ beat. beat ≡ defined_by entry.now) }
-    ensures there { IfOk result (IsThere registry.new) }
-    ensures defined { OnOk result
-        (registry.new ≡ with_numbered registry.old (defined_by entry.now)) }
-    ensures next { OnOk result (copied_goes_on registry.old entry.now ≡ true) }
-    ensures refused { IfErr result
-        (λ fault. fault ≡ AgentFault.Damaged 5 → copied_goes_on registry.old entry.now ≡ false) }
-    ensures faults { IfErr result
-        (λ fault. (fault ≡ AgentFault.Memory) ⊎ (fault ≡ AgentFault.Damaged 5)) }
-{
-    match define_copied(alloc, registry, entry) {
-        Ok(beat) => Ok(beat),
-        Err(refusal) => Err(fault_of(refusal)),
-    }
-}
-
 /// Takes a collected beat: its definitions, and its rows as the last ones.
 fn take_collected(left: &mut Left, entry: &NumberedBeat) -> Result<(), AgentFault>
     ensures there { OnOk result (IsThere left.new.registry entry.now) }
@@ -142,7 +88,7 @@ fn take_collected(left: &mut Left, entry: &NumberedBeat) -> Result<(), AgentFaul
     if !left.role.may_collect() {
         return Err(AgentFault::Damaged(5));
     }
-    define_entry(&mut left.registry, entry)?;
+    define(&mut left.registry, entry)?;
     take_rows(&mut left.last_rows, &left.registry, entry)?;
     left.role = Role::Collects;
     Ok(())
@@ -168,8 +114,8 @@ fn take_copied(alloc: Global, left: &mut Left, entry: &Copied) -> Result<(), Age
     if !left.role.may_copy() {
         return Err(AgentFault::Damaged(5));
     }
-    let defined = define_copy(alloc, &mut left.registry, entry)?;
-    take_rows(&mut left.last_rows, &left.registry, &defined)?;
+    define_copied(alloc, &mut left.registry, entry)?;
+    left.last_rows.make_room(&left.registry)?;
     left.role = Role::Copies(entry.child);
     Ok(())
 }
@@ -191,13 +137,9 @@ fn take_gap(left: &mut Left, gap: &Gap) -> Result<(), AgentFault>
         return Err(AgentFault::Damaged(5));
     }
     let (from, to) = (gap.from, gap.to);
-    match left.gaps.join(GapSpan { from, to }) {
-        Ok(()) => {
-            left.role = Role::Copies(gap.child);
-            Ok(())
-        }
-        Err(_) => Err(AgentFault::Memory),
-    }
+    left.gaps.join(GapSpan { from, to })?;
+    left.role = Role::Copies(gap.child);
+    Ok(())
 }
 
 /// The configuration of a health text, or the database is damaged.

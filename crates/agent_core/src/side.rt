@@ -25,7 +25,7 @@ use crate::left::{Left, Role};
 use alarm_core::{AlarmFault, Alarms, Latest, SeriesPointList, SeriesValueList};
 use alarm_events::KeptAlarms;
 use algorithms::Last;
-use beat_entries::{EntryRefusal, define};
+use beat_entries::define;
 use beat_points::LastRows;
 use chart_registry::Registry;
 use fixed_num::{ByteList, ListOf};
@@ -168,9 +168,7 @@ pub(crate) fn write_left(alloc: Global, left: &Left, floor: u32) -> Result<ByteL
         → length bytes ≤ side_limit (length (gaps_above floor left.now.gaps))) }
     ensures memory { IfErr result (λ fault. fault ≡ AgentFault.Memory) }
 {
-    let Ok(side) = side_of(alloc, left, floor) else {
-        return Err(AgentFault::Memory);
-    };
+    let side = side_of(alloc, left, floor)?;
     if !is_short(&side) {
         return Err(AgentFault::Memory);
     }
@@ -263,11 +261,8 @@ fn defined(
         dimensions,
         rows: RowList::new(alloc),
     };
-    match define(&mut registry, &beat) {
-        Ok(()) => Ok(registry),
-        Err(EntryRefusal::NotNext) => Err(AgentFault::Damaged(5)),
-        Err(EntryRefusal::Memory) => Err(AgentFault::Memory),
-    }
+    define(&mut registry, &beat)?;
+    Ok(registry)
 }
 
 /// The alarms that were kept so, or the database is damaged.
@@ -300,17 +295,11 @@ fn latest_of(
     ensures raws { IfOk result (λ latest. latest.raws ≡ map (option_map raw_of) rows.now) }
     ensures memory { IfErr result (λ fault. fault ≡ AgentFault.Memory) }
 {
-    let Ok(points) = seen_points(alloc, points) else {
-        return Err(AgentFault::Memory);
-    };
-    let Ok(raws) = seen_values(alloc, rows) else {
-        return Err(AgentFault::Memory);
-    };
     Ok(Latest {
         before: 0,
         charts,
-        points,
-        raws,
+        points: seen_points(alloc, points)?,
+        raws: seen_values(alloc, rows)?,
     })
 }
 

@@ -27,22 +27,21 @@ ghost use Rattle.agent_core.specs.Left.{AwaitsAlarms, IsLeftBy};
 ghost use Rattle.agent_core.specs.Notes.{names_series};
 ghost use Rattle.agent_core.specs.Roles.{may_copy, role_of};
 ghost use Rattle.agent_core.specs.Rules.{lacks_chart, HasLimits, IsOpenBeat};
-ghost use Rattle.agent_core.specs.Storing.{gap_beats, later_copies, sent_copies, with_names, AreSent, HasAdded, IsSentAs, MayTakeAll};
+ghost use Rattle.agent_core.specs.Storing.{defining, gap_beats, later_copies, named_series, sent_copies, with_names, AreSent, HasAdded, IsSentAs, MayTakeAll};
 
 use crate::alarming::{Stepping, follow};
-use crate::copying::{definitions_in, kept_copy, kept_gap};
+use crate::copying::{definitions_in, kept_copy, kept_gap, named_series};
 use crate::fault::AgentFault;
-use crate::keeping::{commit, make_room, see_copy, take_rows};
+use crate::keeping::{commit, make_room, see_copy};
 use crate::left::{Left, Role};
 use alarm_core::EventList;
-use beat_entries::{number_beat, untaken};
+use beat_entries::{NumberedDefinitions, number_definitions};
 use chart_registry::Registry;
-use fixed_num::ListOf;
-use history::{NumberedBeat, OpenBeat};
+use history::{NumberedChart, NumberedDimension, OpenBeat};
 use host_model::Host;
-use replication::{Beat as SentBeat, Data};
+use replication::{Beat as SentBeat, Data, Names};
 use side_codec::GapSpan;
-use std::alloc::{AllocError, Global};
+use std::alloc::Global;
 use store_core::{Beat, Store};
 
 /// Adds a gap of a child, the moments above `from` up to `to`, to a store that is still of use. At every moment a
@@ -78,10 +77,8 @@ fn add_gap<H: Host>(
         store.new }
     ensures last { OnOk result (store.new.tiers.last ≡ to) }
 {
-    match kept_gap(alloc, child, from, to) {
-        Ok(kept) => commit(store, host, &kept),
-        Err(_) => Err(AgentFault::Memory),
-    }
+    let kept = kept_gap(alloc, child, from, to)?;
+    commit(store, host, &kept)
 }
 
 /// Adds a copied beat, whose definitions the registry has: what is left is the role, and the alarms have still to
@@ -92,7 +89,6 @@ fn store_copy<H: Host>(
     store: &mut Store,
     left: &mut Left,
     host: &mut H,
-    defines: &NumberedBeat,
     kept: &Beat,
     moment: u32,
 ) -> Result<(), AgentFault>
@@ -102,7 +98,6 @@ fn store_copy<H: Host>(
     requires not_due { is_due store.old ≡ false }
     requires later { store.old.tiers.last < moment }
     requires moment { kept.now.moment ≡ Some moment }
-    requires no_rows { defines.now.rows ≡ [] }
     requires named { names_series left.old.registry kept.now.points ≡ true }
     requires form { InForm kept.now }
     requires size { length (beat_bytes kept.now) ≤ 2 ^ 26 }
@@ -132,12 +127,12 @@ fn store_copy<H: Host>(
 {
     let before = store.last();
     commit(store, host, kept)?;
-    take_rows(&mut left.last_rows, &left.registry, defines)?;
+    left.last_rows.make_room(&left.registry)?;
     see_copy(alloc, left, moment, kept.points.as_slice(), before)
 }
 
-/// Adds a beat of a message, whose definitions the registry has, and gives the events that its alarms tell. At every
-/// moment a crash leaves the history with the beat or without it. `fresh` says whether definitions came since the
+/// Adds a beat of a message that defines this, where the registry has the definitions of the message, and these are the
+/// series of its names. It gives the events that the alarms tell. At every moment a crash leaves the history with the beat or without it. `fresh` says whether definitions came since the
 /// alarms were last stepped. After an `Err` nothing of the store and of what was left is of use.
 fn add_copy<H: Host>(
     alloc: Global,
@@ -145,7 +140,9 @@ fn add_copy<H: Host>(
     left: &mut Left,
     host: &mut H,
     message: &Data,
-    defines: &NumberedBeat,
+    series: &[Option<u32>],
+    charts: &[NumberedChart],
+    dimensions: &[NumberedDimension],
     beat: &SentBeat,
     fresh: bool,
 ) -> Result<EventList, AgentFault>
@@ -159,13 +156,13 @@ fn add_copy<H: Host>(
     requires names { AreNamesApart message.now.names }
     requires places { has_rising_places beat.now ≡ true }
     requires words { has_storage_numbers beat.now ≡ true }
-    requires within { IsWithinLimits defines.now }
-    requires canonical { is_collected_canonical defines.now ≡ true }
-    requires no_rows { defines.now.rows ≡ [] }
+    requires series { series.now ≡ named_series left.old.registry message.now.names }
+    requires within { IsWithinLimits (defining charts.now dimensions.now) }
+    requires canonical { is_collected_canonical (defining charts.now dimensions.now) ≡ true }
     requires same { fresh ≡ false → IsUpTo left.old.alarms left.old.registry }
     ensures any_moment { H.honest → (set : ASettings) (g : List HistoryBeat) (copy : Copy)
         → HoldsHistory (H.seen host.old).past store.old set g
-        → IsSentAs left.old.registry message.now defines.now beat.now g copy
+        → IsSentAs left.old.registry message.now charts.now dimensions.now beat.now g copy
         → Throughout (EveryDisk (λ disk. StandsForHistory set g disk
         ⊎ StandsForHistory set (copied copy ∷ g) disk)) (H.seen host.old).past
         (H.seen host.new).past }
@@ -173,7 +170,7 @@ fn add_copy<H: Host>(
         (λ events. H.honest → (before : ARegistry) (set : ASettings) (g : List HistoryBeat)
         (copy : Copy) → HoldsHistory (H.seen host.old).past store.old set g
         → IsLeftBy set g (record left.old { registry = before })
-        → IsSentAs left.old.registry message.now defines.now beat.now g copy
+        → IsSentAs left.old.registry message.now charts.now dimensions.now beat.now g copy
         → HasAdded (H.seen host.new).past store.new left.new set g (copied copy ∷ []) events) }
     ensures registry { left.new.registry ≡ left.old.registry }
     ensures role { OnOk result (left.new.role ≡ Role.Copies message.now.child) }
@@ -188,29 +185,18 @@ fn add_copy<H: Host>(
     ensures last { OnOk result (store.new.tiers.last ≡ beat.now.moment) }
 {
     let moment = beat.moment;
-    let Ok(kept) = kept_copy(alloc, &left.registry, message, defines, beat) else {
-        return Err(AgentFault::Memory);
-    };
-    store_copy(alloc, store, left, host, defines, &kept, moment)?;
+    let kept = kept_copy(
+        alloc,
+        &left.registry,
+        message,
+        series,
+        charts,
+        dimensions,
+        beat,
+    )?;
+    store_copy(alloc, store, left, host, &kept, moment)?;
     left.role = Role::Copies(message.child);
     follow(alloc, left, store, host, Stepping::Beat(moment, fresh))
-}
-
-/// A beat that defines nothing and sets nothing.
-#[tactic(auto, unfolding(entry_codec::specs::Entries::is_collected_canonical))]
-fn nothing_defined(alloc: Global) -> NumberedBeat
-    ensures charts { result.charts ≡ [] }
-    ensures dimensions { result.dimensions ≡ [] }
-    ensures rows { result.rows ≡ [] }
-    ensures within { IsWithinLimits result }
-    ensures canonical { is_collected_canonical result ≡ true }
-{
-    NumberedBeat {
-        moment: 0,
-        charts: ListOf::new(alloc),
-        dimensions: ListOf::new(alloc),
-        rows: ListOf::new(alloc),
-    }
 }
 
 /// Adds events to those before them.
@@ -219,9 +205,7 @@ fn add_events(events: &mut EventList, more: EventList) -> Result<(), AgentFault>
     ensures memory { IfErr result (λ fault. fault ≡ AgentFault.Memory) }
 {
     for event in more.into_vec() {
-        if events.push(event).is_err() {
-            return Err(AgentFault::Memory);
-        }
+        events.push(event)?;
     }
     Ok(())
 }
@@ -235,6 +219,7 @@ fn add_later<H: Host>(
     left: &mut Left,
     host: &mut H,
     message: &Data,
+    series: &[Option<u32>],
     beats: &[SentBeat],
 ) -> Result<EventList, AgentFault>
     requires ready { IsReady H.honest (H.seen host.old).past store.old }
@@ -244,6 +229,7 @@ fn add_later<H: Host>(
     requires registry { HasLimits left.old.registry }
     requires up_to { IsUpTo left.old.alarms left.old.registry }
     requires sent { AreSent store.old.tiers.last message.now beats.now }
+    requires series { series.now ≡ named_series left.old.registry message.now.names }
     ensures any_moment { H.honest → (set : ASettings) (g : List HistoryBeat)
         → let more = later_copies left.old.registry message.now beats.now in
         HoldsHistory (H.seen host.old).past store.old set g → IsLeftBy set g left.old
@@ -272,18 +258,28 @@ fn add_later<H: Host>(
     ensures last { OnOk result
         (store.new.tiers.last ≡ latest_of beat_moment store.old.tiers.last beats.now) }
 {
-    let defines = nothing_defined(alloc);
     let mut events = EventList::new(alloc);
     for beat in beats {
         make_room(alloc, store, left, host)?;
-        let more = add_copy(alloc, store, left, host, message, &defines, beat, false)?;
+        let more = add_copy(
+            alloc,
+            store,
+            left,
+            host,
+            message,
+            series,
+            &[],
+            &[],
+            beat,
+            false,
+        )?;
         add_events(&mut events, more)?;
     }
     Ok(events)
 }
 
-/// Adds the beats of a message, each after those before it, where the registry has the definitions of the message,
-/// of which this is the numbered beat: the first has them. The events are those of all of them. At every moment a
+/// Adds the beats of a message, each after those before it, where the registry has the definitions of the message, and
+/// these are its numbers: the first beat has the definitions. The events are those of all of them. At every moment a
 /// crash leaves the history with the first of them, with none or with all. After an `Err` nothing of the store and of
 /// what was left is of use.
 fn add_beats<H: Host>(
@@ -292,7 +288,7 @@ fn add_beats<H: Host>(
     left: &mut Left,
     host: &mut H,
     message: &Data,
-    defines: &NumberedBeat,
+    numbers: &Numbers,
     beats: &[SentBeat],
 ) -> Result<EventList, AgentFault>
     requires ready { IsReady H.honest (H.seen host.old).past store.old }
@@ -302,13 +298,15 @@ fn add_beats<H: Host>(
     requires own { AreApart same_dimension left.old.registry.dimensions }
     requires registry { HasLimits left.old.registry }
     requires sent { AreSent store.old.tiers.last message.now beats.now }
-    requires charts { defines.now.charts
+    requires charts { numbers.now.definitions.charts
         ≡ numbered_charts left.old.registry (definitions_in message.now.names) }
-    requires dimensions { defines.now.dimensions
+    requires dimensions { numbers.now.definitions.dimensions
         ≡ numbered_dimensions left.old.registry (definitions_in message.now.names) }
-    requires within { IsWithinLimits defines.now }
-    requires canonical { is_collected_canonical defines.now ≡ true }
-    requires no_rows { defines.now.rows ≡ [] }
+    requires within { IsWithinLimits (defining numbers.now.definitions.charts numbers.now.definitions.dimensions) }
+    requires canonical { is_collected_canonical
+        (defining numbers.now.definitions.charts numbers.now.definitions.dimensions) ≡ true }
+    requires series { numbers.now.series.items
+        ≡ named_series left.old.registry message.now.names }
     ensures any_moment { H.honest → (before : ARegistry) (set : ASettings)
         (g : List HistoryBeat)
         → let more = sent_copies left.old.registry message.now beats.now in
@@ -347,8 +345,13 @@ fn add_beats<H: Host>(
     let Some((first, rest)) = beats.split_first() else {
         return Ok(EventList::new(alloc));
     };
-    let mut events = add_copy(alloc, store, left, host, message, defines, first, true)?;
-    let more = add_later(alloc, store, left, host, message, rest)?;
+    let series = numbers.series.as_slice();
+    let charts = numbers.definitions.charts.as_slice();
+    let dimensions = numbers.definitions.dimensions.as_slice();
+    let mut events = add_copy(
+        alloc, store, left, host, message, series, charts, dimensions, first, true,
+    )?;
+    let more = add_later(alloc, store, left, host, message, series, rest)?;
     add_events(&mut events, more)?;
     Ok(events)
 }
@@ -360,10 +363,8 @@ fn join_gap(left: &mut Left, from: u32, to: u32) -> Result<(), AgentFault>
     ensures only { left.new ≡ record left.old { gaps = left.new.gaps } }
     ensures memory { IfErr result (λ fault. fault ≡ AgentFault.Memory) }
 {
-    match left.gaps.join(GapSpan { from, to }) {
-        Ok(()) => Ok(()),
-        Err(_) => Err(AgentFault::Memory),
-    }
+    left.gaps.join(GapSpan { from, to })?;
+    Ok(())
 }
 
 /// Adds the gap before the beats of a message, if there is one. At every moment a crash leaves the history with the
@@ -420,12 +421,23 @@ fn add_gap_before<H: Host>(
     }
 }
 
-/// Takes definitions that a registry was tested for, and gives them by number. After an `Err` it may have taken them.
+/// What a message says by number.
+#[derive(Drop)]
+struct Numbers {
+    /// What it defines.
+    definitions: NumberedDefinitions,
+    /// The series of its names of dimensions, by place.
+    series: Vec<Option<u32>>,
+}
+
+/// Takes the definitions of a message, against which the registry has nothing, and gives them and its names by number.
+/// After an `Err` it may have taken them.
 fn define(
     alloc: Global,
     registry: &mut Registry,
+    names: &Names,
     defs: &OpenBeat,
-) -> Result<NumberedBeat, AgentFault>
+) -> Result<Numbers, AgentFault>
     requires is_open { IsOpenBeat defs.now }
     requires no_rows { defs.now.rows ≡ [] }
     requires has_charts { lacks_chart registry.old defs.now ≡ false }
@@ -436,27 +448,29 @@ fn define(
     ensures applied { OnOk result
         (registry.new ≡ with_definitions registry.old defs.now.charts defs.now.dimensions) }
     ensures numbered_charts { IfOk result
-        (λ numbered. numbered.charts ≡ numbered_charts registry.new defs.now) }
+        (λ numbers. numbers.definitions.charts ≡ numbered_charts registry.new defs.now) }
     ensures numbered_dimensions { IfOk result
-        (λ numbered. numbered.dimensions ≡ numbered_dimensions registry.new defs.now) }
-    ensures within { IfOk result IsWithinLimits }
-    ensures canonical { IfOk result (λ numbered. is_collected_canonical numbered ≡ true) }
-    ensures no_rows { IfOk result (λ numbered. numbered.rows ≡ []) }
+        (λ numbers. numbers.definitions.dimensions ≡ numbered_dimensions registry.new defs.now) }
+    ensures within { IfOk result
+        (λ numbers. IsWithinLimits (defining numbers.definitions.charts numbers.definitions.dimensions)) }
+    ensures canonical { IfOk result (λ numbers.
+        is_collected_canonical (defining numbers.definitions.charts numbers.definitions.dimensions) ≡ true) }
+    ensures series { IfOk result
+        (λ numbers. numbers.series.items ≡ named_series registry.new names.now) }
     ensures charts { OnOk result (AreApart same_chart registry.new.charts) }
     ensures dimensions { OnOk result (AreApart same_dimension registry.new.dimensions) }
     ensures limits { OnOk result (HasLimits registry.new) }
     ensures memory { IfErr result (λ fault. fault ≡ AgentFault.Memory) }
 {
-    match registry.apply(defs) {
-        Ok(()) => match number_beat(alloc, registry, 0, defs) {
-            Ok(numbered) => Ok(numbered),
-            Err(_) => Err(AgentFault::Memory),
-        },
-        Err(fault) => {
-            let _none = untaken(fault);
-            Err(AgentFault::Memory)
-        }
-    }
+    let definitions = number_definitions(alloc, registry, defs)?;
+    let charts = definitions.charts.as_slice();
+    let dimensions = definitions.dimensions.as_slice();
+    registry.take_definitions(charts, dimensions)?;
+    let series = named_series(alloc, registry, names)?;
+    Ok(Numbers {
+        definitions,
+        series,
+    })
 }
 
 /// Adds the gap and the beats of a message that begins where the history ends, and gives the events of all of them;
@@ -504,12 +518,10 @@ pub(crate) fn add_message<H: Host>(
     ensures limits { OnOk result (HasLimits left.new.registry) }
     ensures up_to { OnOk result (IsUpTo left.new.alarms left.new.registry) }
 {
-    let Ok(defs) = definitions_in(alloc, &message.names) else {
-        return Err(AgentFault::Memory);
-    };
+    let defs = definitions_in(alloc, &message.names)?;
     add_gap_before(alloc, store, left, host, message)?;
     make_room(alloc, store, left, host)?;
-    let defines = define(alloc, &mut left.registry, &defs)?;
+    let numbers = define(alloc, &mut left.registry, &message.names, &defs)?;
     let beats = message.beats.as_slice();
-    add_beats(alloc, store, left, host, message, &defines, beats)
+    add_beats(alloc, store, left, host, message, &numbers, beats)
 }

@@ -1,6 +1,6 @@
 //! The calls by which an agent copies a child, and by which a parent copies it.
 
-ghost use Rattle.std.specs.Prelude.{◌≡◌, ◌⊎◌, ◌<◌, ◌≤◌, ◌+◌, ◌^◌, ℕ, [], List, length, None, false, true, IfOk, IfErr, IfSome, IsErrOf, OnOk, OnErr, if◌then◌else◌};
+ghost use Rattle.std.specs.Prelude.{◌≡◌, ◌<◌, ◌≤◌, ◌+◌, ◌^◌, ℕ, [], List, length, None, IfOk, IfErr, IfSome, IsErrOf, OnOk, OnErr};
 ghost use Rattle.host_model.specs.Past.{Event};
 ghost use Rattle.host_model.specs.Disks.{EveryDisk};
 ghost use Rattle.host_model.specs.Cause.{HasCause};
@@ -14,10 +14,10 @@ ghost use Rattle.link_frames.specs.declared.frame.Frame.TheVariants as frame;
 ghost use Rattle.link_frames.specs.DataForm.{IsData};
 ghost use Rattle.link_frames.specs.Frames.{HasSpelling};
 ghost use Rattle.agent_core.specs.Bound.{GrowsWithin};
-ghost use Rattle.agent_core.specs.Calls.{agent_adds, agent_verdict, AnswersAsk, TakesData};
+ghost use Rattle.agent_core.specs.Calls.{agent_verdict, AnswersAsk, TakesData};
 ghost use Rattle.agent_core.specs.Copies.{data_of_history};
-ghost use Rattle.agent_core.specs.Copying.{beats_of, copy_refusal, events_onto, refusal_by};
-ghost use Rattle.agent_core.specs.Faults.{fault_after, IsReading, IsSpending, LeavesAll, RefusedBy, Reopens};
+ghost use Rattle.agent_core.specs.Copying.{beats_of, copy_refusal, events_onto};
+ghost use Rattle.agent_core.specs.Faults.{fault_after, IsReading, IsSpending, LeavesAll, Reopens};
 ghost use Rattle.agent_core.specs.Gaps.{side_share};
 ghost use Rattle.agent_core.specs.Kept.{onto};
 ghost use Rattle.agent_core.specs.Stands.{StandsForPrefix};
@@ -75,74 +75,6 @@ impl Agent {
         ensures { TakesData H.honest (H.seen host.old) self.old
             message.now result (H.seen host.new) self.new }
     {
-        self.store_copies(host, message)
-    }
-
-    /// What the agent makes of a message of a child.
-    fn verdict(&self, message: &Data) -> Verdict
-        ensures { result ≡ agent_verdict self.now message.now }
-    {
-        Parent::new(self.left.role.child(), self.last).take(message)
-    }
-
-    fn store_copies<H: Host>(
-        &mut self,
-        host: &mut H,
-        message: &Data,
-    ) -> Result<(Verdict, Reply), AgentFault>
-        requires ready { AgentIsReady H.honest (H.seen host.old).past self.old }
-        requires form { IsData message.now }
-        ensures verdict { IfOk result (λ taken. taken.0 ≡ agent_verdict self.old message.now) }
-        ensures any_moment { H.honest → (set : ASettings) (h : List HistoryBeat)
-            → IsAgentOf (H.seen host.old).past self.old set h
-            → Throughout (EveryDisk (StandsForPrefix set h (agent_adds self.old message.now)))
-            (H.seen host.old).past (H.seen host.new).past }
-        ensures done { OnOk result
-            (H.honest → (set : ASettings) (h : List HistoryBeat)
-            → IsAgentOf (H.seen host.old).past self.old set h
-            → IsAgentOf (H.seen host.new).past self.new set
-            (onto h (agent_adds self.old message.now))) }
-        ensures number { IfOk result (λ taken. taken.1.count ≡ self.new.count) }
-        ensures events { IfOk result
-            (λ taken. H.honest → (set : ASettings) (h : List HistoryBeat)
-            → IsAgentOf (H.seen host.old).past self.old set h
-            → taken.1.events ≡ events_onto set h (agent_adds self.old message.now)) }
-        ensures counts { OnOk result (self.new.count
-            ≡ counted (self.old.count + length (agent_adds self.old message.now))) }
-        ensures last { OnOk result (self.new.last
-            ≡ (if is_stored (agent_verdict self.old message.now) then message.now.upto
-            else self.old.last)) }
-        ensures role { OnOk result (self.new.role
-            ≡ (if is_stored (agent_verdict self.old message.now) then Role.Copies message.now.child
-            else self.old.role)) }
-        ensures refused { self.old.fault ≡ None
-            → RefusedBy (refusal_by (agent_verdict self.old message.now) self.old.registry
-            self.old.role message.now) result }
-        ensures left { OnOk result (is_stored (agent_verdict self.old message.now) ≡ false
-            → (self.new ≡ self.old) × (host.new ≡ host.old)) }
-        ensures quiet { is_stored (agent_verdict self.old message.now) ≡ false
-            → H.seen host.new ≡ H.seen host.old }
-        ensures fails { IsErrOf result AgentFault.DiskFault ⊎ IsErrOf result AgentFault.Memory
-            → is_stored (agent_verdict self.old message.now) ≡ true }
-        ensures unchanged { IfErr result
-            (λ fault. LeavesAll fault → (self.new ≡ self.old) × (host.new ≡ host.old)) }
-        ensures fault { self.new.fault ≡ fault_after self.old.fault result }
-        ensures reopens { Reopens self.old.fault result }
-        ensures stays { OnErr result
-            ((self.new.count ≡ self.old.count) × (self.new.last ≡ self.old.last)) }
-        ensures id { id_of self.new ≡ id_of self.old }
-        ensures ready { AgentIsReady H.honest (H.seen host.new).past self.new }
-        ensures cause { HasCause (H.seen host.old).disk_faults (H.seen host.new).disk_faults
-            (IsErrOf result AgentFault.DiskFault) }
-        ensures bound { H.honest → (set : ASettings) (h : List HistoryBeat)
-            → IsAgentOf (H.seen host.old).past self.old set h → (limit : ℕ)
-            → side_share set ≤ limit
-            → GrowsWithin set limit (H.seen host.old).past self.old.store
-            (H.seen host.new).past self.new.store }
-        ensures only_here { H.honest
-            → OnlyOwn (H.seen host.old).past (H.seen host.new).past }
-        ensures tells { (H.seen host.new).tell_faults ≡ (H.seen host.old).tell_faults }
-    {
         if let Some(cause) = self.fault {
             return Err(AgentFault::Reopen(cause));
         }
@@ -157,6 +89,13 @@ impl Agent {
             Ok(reply) => Ok((verdict, reply)),
             Err(fault) => Err(fault),
         }
+    }
+
+    /// What the agent makes of a message of a child.
+    fn verdict(&self, message: &Data) -> Verdict
+        ensures { result ≡ agent_verdict self.now message.now }
+    {
+        Parent::new(self.left.role.child(), self.last).take(message)
     }
 
     /// Stores a message that begins at the last moment, against which nothing stands.

@@ -7,48 +7,48 @@ use Rattle.agent_core.proofs.KeptLemmas.{climbs, collected-awaits, collected-of,
 use Rattle.agent_core.proofs.BoundLemmas.{grows-none}
 use Rattle.agent_core.proofs.keeping.add.Goals as goal
 
-pub returns-in_default-clause-any_moment : goal.returns-in_default-clause-any_moment
-returns-in_default-clause-any_moment g c true_host before moment beat set h taken holds was follows = begins (λ disk images. inl (stays (g.H.Host.seen c.args.host.now).past c.args.store.now set h holds disk images))
+pub returns-in_err-kept-clause-any_moment : goal.returns-in_err-kept-clause-any_moment
+returns-in_err-kept-clause-any_moment g c true_host before moment beat set h taken holds was follows = begins (λ disk images. inl (stays (g.H.Host.seen c.args.host.now).past c.args.store.now set h holds disk images))
 
 pub returns-in_err-commit-clause-any_moment : goal.returns-in_err-commit-clause-any_moment
 returns-in_err-commit-clause-any_moment g c true_host before moment beat set h taken holds was follows =
     let past = (g.H.Host.seen c.args.host.now).past in
-    let of = collected-of past c.args.store.now set h holds before c.args.left.now was moment beat follows c.args.numbered.now taken c.in-Ok.kept (λ g' next. c.in-Ok.ensures.kept g' beat next) c.in-Ok.ensures.spelt in
-    climbs past c.args.store.now set h holds (collected moment beat) c.in-Ok.kept of (g.H.Host.seen c.commit.new.host).past (c.commit.ensures.any_moment true_host holds.stored holds.store_of)
+    let of = collected-of past c.args.store.now set h holds before c.args.left.now was moment beat follows c.args.numbered.now taken c.in_ok-kept.kept (λ g' next. c.in_ok-kept.ensures.kept g' beat next) c.in_ok-kept.ensures.spelt in
+    climbs past c.args.store.now set h holds (collected moment beat) c.in_ok-kept.kept of (g.H.Host.seen c.commit.new.host).past (c.commit.ensures.any_moment true_host holds.stored holds.store_of)
 
 pub returns-in_err-take_rows-clause-any_moment : goal.returns-in_err-take_rows-clause-any_moment
 returns-in_err-take_rows-clause-any_moment g c true_host before moment beat set h taken holds was follows =
     let past = (g.H.Host.seen c.args.host.now).past in
-    let of = collected-of past c.args.store.now set h holds before c.args.left.now was moment beat follows c.args.numbered.now taken c.in-Ok.kept (λ g' next. c.in-Ok.ensures.kept g' beat next) c.in-Ok.ensures.spelt in
-    climbs past c.args.store.now set h holds (collected moment beat) c.in-Ok.kept of (g.H.Host.seen c.commit.new.host).past (c.commit.ensures.any_moment true_host holds.stored holds.store_of)
+    let of = collected-of past c.args.store.now set h holds before c.args.left.now was moment beat follows c.args.numbered.now taken c.in_ok-kept.kept (λ g' next. c.in_ok-kept.ensures.kept g' beat next) c.in_ok-kept.ensures.spelt in
+    climbs past c.args.store.now set h holds (collected moment beat) c.in_ok-kept.kept of (g.H.Host.seen c.commit.new.host).past (c.commit.ensures.any_moment true_host holds.stored holds.store_of)
 
 pub returns-in_err-see_beat-clause-any_moment : goal.returns-in_err-see_beat-clause-any_moment
 returns-in_err-see_beat-clause-any_moment g c true_host before moment beat set h taken holds was follows =
     let past = (g.H.Host.seen c.args.host.now).past in
-    let of = collected-of past c.args.store.now set h holds before c.args.left.now was moment beat follows c.args.numbered.now taken c.in-Ok.kept (λ g' next. c.in-Ok.ensures.kept g' beat next) c.in-Ok.ensures.spelt in
-    climbs past c.args.store.now set h holds (collected moment beat) c.in-Ok.kept of (g.H.Host.seen c.commit.new.host).past (c.commit.ensures.any_moment true_host holds.stored holds.store_of)
+    let of = collected-of past c.args.store.now set h holds before c.args.left.now was moment beat follows c.args.numbered.now taken c.in_ok-kept.kept (λ g' next. c.in_ok-kept.ensures.kept g' beat next) c.in_ok-kept.ensures.spelt in
+    climbs past c.args.store.now set h holds (collected moment beat) c.in_ok-kept.kept of (g.H.Host.seen c.commit.new.host).past (c.commit.ensures.any_moment true_host holds.stored holds.store_of)
 
 pub returns-clause-any_moment : goal.returns-clause-any_moment
 returns-clause-any_moment g c true_host before moment beat set h taken holds was follows =
     let past = (g.H.Host.seen c.args.host.now).past in
-    let of = collected-of past c.args.store.now set h holds before c.args.left.now was moment beat follows c.args.numbered.now taken c.in-Ok.kept (λ g' next. c.in-Ok.ensures.kept g' beat next) c.in-Ok.ensures.spelt in
-    climbs past c.args.store.now set h holds (collected moment beat) c.in-Ok.kept of (g.H.Host.seen c.commit.new.host).past (c.commit.ensures.any_moment true_host holds.stored holds.store_of)
+    let of = collected-of past c.args.store.now set h holds before c.args.left.now was moment beat follows c.args.numbered.now taken c.in_ok-kept.kept (λ g' next. c.in_ok-kept.ensures.kept g' beat next) c.in_ok-kept.ensures.spelt in
+    climbs past c.args.store.now set h holds (collected moment beat) c.in_ok-kept.kept of (g.H.Host.seen c.commit.new.host).past (c.commit.ensures.any_moment true_host holds.stored holds.store_of)
 
 pub returns-clause-done : goal.returns-clause-done
 returns-clause-done g c true_host before moment beat set h taken holds was follows =
     let past = (g.H.Host.seen c.args.host.now).past in
-    let of = collected-of past c.args.store.now set h holds before c.args.left.now was moment beat follows c.args.numbered.now taken c.in-Ok.kept (λ g' next. c.in-Ok.ensures.kept g' beat next) c.in-Ok.ensures.spelt in
+    let of = collected-of past c.args.store.now set h holds before c.args.left.now was moment beat follows c.args.numbered.now taken c.in_ok-kept.kept (λ g' next. c.in_ok-kept.ensures.kept g' beat next) c.in_ok-kept.ensures.spelt in
     let old = c.args.left.now in
     let new = c.see_beat.new.left in
-    let kept = c.in-Ok.kept in
+    let kept = c.in_ok-kept.kept in
     let points = subst (HasSeenBeat old.registry old.latest new.latest c.args.numbered.now) c.as_slice.ensures c.in_ok-see_beat.ensures.seen in (
       holds-beat past c.args.store.now set h holds (collected moment beat) kept of (g.H.Host.seen c.commit.new.host).past c.commit.new.store (c.in_ok-commit.ensures.stored true_host holds.stored holds.store_of),
-      collected-awaits past c.args.store.now set h holds before old was moment beat follows c.args.numbered.now taken kept (λ g' next. c.in-Ok.ensures.kept g' beat next) c.take_rows.new.last_rows new c.see_beat.ensures.only
+      collected-awaits past c.args.store.now set h holds before old was moment beat follows c.args.numbered.now taken kept (λ g' next. c.in_ok-kept.ensures.kept g' beat next) c.take_rows.new.last_rows new c.see_beat.ensures.only
           c.in_ok-take_rows.ensures.taken points (c.in_ok-see_beat.ensures.before ∙ c.last-before.ensures),
     )
 
 pub returns-clause-last : goal.returns-clause-last
-returns-clause-last g c = c.in_ok-commit.ensures.last ∙ ap (last_after c.args.store.now.tiers.last) c.in-Ok.ensures.moment
+returns-clause-last g c = c.in_ok-commit.ensures.last ∙ ap (last_after c.args.store.now.tiers.last) c.in_ok-kept.ensures.moment
 
-pub returns-in_default-clause-bound : goal.returns-in_default-clause-bound
-returns-in_default-clause-bound g c true_host set h holds limit = grows-none set limit (g.H.Host.seen c.args.host.now).past c.args.store.now
+pub returns-in_err-kept-clause-bound : goal.returns-in_err-kept-clause-bound
+returns-in_err-kept-clause-bound g c true_host set h holds limit = grows-none set limit (g.H.Host.seen c.args.host.now).past c.args.store.now

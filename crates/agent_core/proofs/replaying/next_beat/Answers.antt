@@ -1,7 +1,8 @@
 use Rattle.std.proofs.Common.{Err, Some, sym, ap, subst, ◌∙◌}
 use Rattle.store_core.specs.Store.{IsReady}
 use Rattle.store_core.proofs.FollowReplay.{ready_replayed}
-use Rattle.agent_core.proofs.OpenFaults.{replays-memory, replays-said, replays-unreplayed, told-damaged}
+use Rattle.agent_core.specs.declared.fault.AgentFault.TheVariants.{Damaged}
+use Rattle.agent_core.proofs.OpenFaults.{replays-memory, replays-said, replays-unreplayed, told-by}
 use Rattle.agent_core.proofs.ReadyLemmas.{ready-leaves}
 use Rattle.agent_core.proofs.replaying.next_beat.Goals as goal
 
@@ -16,7 +17,7 @@ pub returns-in-Err-clause-whole : goal.returns-in-Err-clause-whole
 returns-in-Err-clause-whole g c past stored rest is_at =
     replays-memory c.store_fault.result
     (replays-unreplayed c.args.store.now.fault c.in-Err.fault c.store_fault.result c.requires.going c.in-Err.ensures.reopens c.store_fault.ensures c.in-Err.ensures.faults)
-    (λ damaged. c.replay.ensures.whole past stored rest is_at (c.in-Err.is ∙ ap Err (told-damaged c.in-Err.fault 4 (c.store_fault.ensures ∙ ap Some damaged))))
+    (λ damaged. c.replay.ensures.whole past stored rest is_at (c.in-Err.is ∙ ap Err (told-by c.in-Err.fault (Damaged 4) (c.store_fault.ensures ∙ ap Some damaged))))
 
 pub returns-in-Ok-clause-ready : goal.returns-in-Ok-clause-ready
 returns-in-Ok-clause-ready g c past ready =

@@ -3,10 +3,13 @@ use Rattle.std.proofs.lemmas.Result.{err_from_is_err_and}
 use Rattle.host_model.specs.Disks.{EveryDisk}
 use Rattle.host_model.specs.Moments.{begins, Throughout}
 use Rattle.host_model.proofs.MomentLemmas.{joined}
+use Rattle.history.specs.declared.numbered.NumberedChart.{NumberedChart}
+use Rattle.history.specs.declared.numbered.NumberedDimension.{NumberedDimension}
+use Rattle.entry_codec.specs.Entries.{is_collected_canonical, IsWithinLimits}
 use Rattle.history.specs.History.{Beat, copied}
 use Rattle.history.specs.Registry.{Registry}
 use Rattle.agent_core.specs.Stands.{StandsForPrefix}
-use Rattle.agent_core.specs.Storing.{later_copies, AreSent, HasAdded, MayTakeAll}
+use Rattle.agent_core.specs.Storing.{defining, later_copies, named_series, AreSent, HasAdded, MayTakeAll}
 use Rattle.agent_core.proofs.PrefixLemmas.{added-behind, copies-are, first_copy, first-moments, rest-moments, rest-sent, sent-first}
 use Rattle.agent_core.proofs.KeepsLemmas.{keeps-after, keeps-both}
 use Rattle.agent_core.proofs.KeptLemmas.{stays}
@@ -27,7 +30,7 @@ returns-in_err-events-clause-any_moment g c true_host before set h holds was is 
     let copy = first_copy registry message first in
     let later = later_copies registry message rest in
     let mine : MayTakeAll h (copied copy ∷ later) = subst (MayTakeAll h) same all in
-    let sent = sent-first before registry message c.args.defines.now first h c.requires.charts c.requires.dimensions was.registry_is is mine.0 in
+    let sent = sent-first before registry message c.as_slice-charts.result.now c.as_slice-dimensions.result.now first h (c.as_slice-charts.ensures ∙ c.requires.charts) (c.as_slice-dimensions.ensures ∙ c.requires.dimensions) was.registry_is is mine.0 in
     let past = (g.H.Host.seen c.args.host.now).past in
     let middle = (g.H.Host.seen c.add_copy.new.host).past in
     let begun = first-moments set h (copied copy) later past middle (c.add_copy.ensures.any_moment true_host set h copy holds sent) in
@@ -44,7 +47,7 @@ returns-in_err-more-clause-any_moment g c true_host before set h holds was is al
     let copy = first_copy registry message first in
     let later = later_copies registry message rest in
     let mine : MayTakeAll h (copied copy ∷ later) = subst (MayTakeAll h) same all in
-    let sent = sent-first before registry message c.args.defines.now first h c.requires.charts c.requires.dimensions was.registry_is is mine.0 in
+    let sent = sent-first before registry message c.as_slice-charts.result.now c.as_slice-dimensions.result.now first h (c.as_slice-charts.ensures ∙ c.requires.charts) (c.as_slice-dimensions.ensures ∙ c.requires.dimensions) was.registry_is is mine.0 in
     let past = (g.H.Host.seen c.args.host.now).past in
     let middle = (g.H.Host.seen c.add_copy.new.host).past in
     let begun = first-moments set h (copied copy) later past middle (c.add_copy.ensures.any_moment true_host set h copy holds sent) in
@@ -67,7 +70,7 @@ returns-in_err-add_events-clause-any_moment g c true_host before set h holds was
     let copy = first_copy registry message first in
     let later = later_copies registry message rest in
     let mine : MayTakeAll h (copied copy ∷ later) = subst (MayTakeAll h) same all in
-    let sent = sent-first before registry message c.args.defines.now first h c.requires.charts c.requires.dimensions was.registry_is is mine.0 in
+    let sent = sent-first before registry message c.as_slice-charts.result.now c.as_slice-dimensions.result.now first h (c.as_slice-charts.ensures ∙ c.requires.charts) (c.as_slice-dimensions.ensures ∙ c.requires.dimensions) was.registry_is is mine.0 in
     let past = (g.H.Host.seen c.args.host.now).past in
     let middle = (g.H.Host.seen c.add_copy.new.host).past in
     let begun = first-moments set h (copied copy) later past middle (c.add_copy.ensures.any_moment true_host set h copy holds sent) in
@@ -90,7 +93,7 @@ returns-clause-any_moment g c true_host before set h holds was is all =
     let copy = first_copy registry message first in
     let later = later_copies registry message rest in
     let mine : MayTakeAll h (copied copy ∷ later) = subst (MayTakeAll h) same all in
-    let sent = sent-first before registry message c.args.defines.now first h c.requires.charts c.requires.dimensions was.registry_is is mine.0 in
+    let sent = sent-first before registry message c.as_slice-charts.result.now c.as_slice-dimensions.result.now first h (c.as_slice-charts.ensures ∙ c.requires.charts) (c.as_slice-dimensions.ensures ∙ c.requires.dimensions) was.registry_is is mine.0 in
     let past = (g.H.Host.seen c.args.host.now).past in
     let middle = (g.H.Host.seen c.add_copy.new.host).past in
     let begun = first-moments set h (copied copy) later past middle (c.add_copy.ensures.any_moment true_host set h copy holds sent) in
@@ -113,7 +116,7 @@ returns-clause-done g c true_host before set h holds was is all some =
     let copy = first_copy registry message first in
     let later = later_copies registry message rest in
     let mine : MayTakeAll h (copied copy ∷ later) = subst (MayTakeAll h) same all in
-    let sent = sent-first before registry message c.args.defines.now first h c.requires.charts c.requires.dimensions was.registry_is is mine.0 in
+    let sent = sent-first before registry message c.as_slice-charts.result.now c.as_slice-dimensions.result.now first h (c.as_slice-charts.ensures ∙ c.requires.charts) (c.as_slice-dimensions.ensures ∙ c.requires.dimensions) was.registry_is is mine.0 in
     let new = (g.H.Host.seen c.add_later.new.host).past in
     let stored = c.in_ok-events.ensures.done true_host before set h copy holds was sent in
     let more_is : later_copies c.add_copy.new.left.registry message rest ≡ later = ap (λ (r : Registry). later_copies r message rest) c.add_copy.ensures.registry in
@@ -165,7 +168,7 @@ returns-in_err-more-clause-bound g c true_host before set h holds was is all lim
     let copy = first_copy registry message first in
     let later = later_copies registry message rest in
     let mine : MayTakeAll h (copied copy ∷ later) = subst (MayTakeAll h) same all in
-    let sent = sent-first before registry message c.args.defines.now first h c.requires.charts c.requires.dimensions was.registry_is is mine.0 in
+    let sent = sent-first before registry message c.as_slice-charts.result.now c.as_slice-dimensions.result.now first h (c.as_slice-charts.ensures ∙ c.requires.charts) (c.as_slice-dimensions.ensures ∙ c.requires.dimensions) was.registry_is is mine.0 in
     let stored = c.in_ok-events.ensures.done true_host before set h copy holds was sent in
     let more_is : later_copies c.add_copy.new.left.registry message rest ≡ later = ap (λ (r : Registry). later_copies r message rest) c.add_copy.ensures.registry in
     let takes : MayTakeAll (copied copy ∷ h) (later_copies c.add_copy.new.left.registry message rest) = subst (MayTakeAll (copied copy ∷ h)) (sym more_is) mine.1 in
@@ -183,7 +186,7 @@ returns-in_err-add_events-clause-bound g c true_host before set h holds was is a
     let copy = first_copy registry message first in
     let later = later_copies registry message rest in
     let mine : MayTakeAll h (copied copy ∷ later) = subst (MayTakeAll h) same all in
-    let sent = sent-first before registry message c.args.defines.now first h c.requires.charts c.requires.dimensions was.registry_is is mine.0 in
+    let sent = sent-first before registry message c.as_slice-charts.result.now c.as_slice-dimensions.result.now first h (c.as_slice-charts.ensures ∙ c.requires.charts) (c.as_slice-dimensions.ensures ∙ c.requires.dimensions) was.registry_is is mine.0 in
     let stored = c.in_ok-events.ensures.done true_host before set h copy holds was sent in
     let more_is : later_copies c.add_copy.new.left.registry message rest ≡ later = ap (λ (r : Registry). later_copies r message rest) c.add_copy.ensures.registry in
     let takes : MayTakeAll (copied copy ∷ h) (later_copies c.add_copy.new.left.registry message rest) = subst (MayTakeAll (copied copy ∷ h)) (sym more_is) mine.1 in
@@ -201,7 +204,7 @@ returns-clause-bound g c true_host before set h holds was is all limit fits =
     let copy = first_copy registry message first in
     let later = later_copies registry message rest in
     let mine : MayTakeAll h (copied copy ∷ later) = subst (MayTakeAll h) same all in
-    let sent = sent-first before registry message c.args.defines.now first h c.requires.charts c.requires.dimensions was.registry_is is mine.0 in
+    let sent = sent-first before registry message c.as_slice-charts.result.now c.as_slice-dimensions.result.now first h (c.as_slice-charts.ensures ∙ c.requires.charts) (c.as_slice-dimensions.ensures ∙ c.requires.dimensions) was.registry_is is mine.0 in
     let stored = c.in_ok-events.ensures.done true_host before set h copy holds was sent in
     let more_is : later_copies c.add_copy.new.left.registry message rest ≡ later = ap (λ (r : Registry). later_copies r message rest) c.add_copy.ensures.registry in
     let takes : MayTakeAll (copied copy ∷ h) (later_copies c.add_copy.new.left.registry message rest) = subst (MayTakeAll (copied copy ∷ h)) (sym more_is) mine.1 in
@@ -216,3 +219,18 @@ returns-in_err-add_events-clause-gaps g c = c.add_later.ensures.gaps ∙ c.add_c
 
 pub returns-clause-gaps : goal.returns-clause-gaps
 returns-clause-gaps g c = c.add_later.ensures.gaps ∙ c.add_copy.ensures.gaps
+
+pub add_copy-requires-clause-series : goal.add_copy-requires-clause-series
+add_copy-requires-clause-series g c = c.as_slice-series.ensures.value ∙ c.requires.series
+
+pub add_later-requires-clause-series : goal.add_later-requires-clause-series
+add_later-requires-clause-series g c =
+    c.as_slice-series.ensures.value ∙ c.requires.series ∙ ap (λ (r : Registry). named_series r c.args.message.now.names) (sym c.add_copy.ensures.registry)
+
+pub add_copy-requires-clause-within : goal.add_copy-requires-clause-within
+add_copy-requires-clause-within g c =
+    subst (λ (ds : List NumberedDimension). IsWithinLimits (defining c.as_slice-charts.result.now ds)) (sym c.as_slice-dimensions.ensures)
+    (subst (λ (cs : List NumberedChart). IsWithinLimits (defining cs c.args.numbers.now.definitions.dimensions)) (sym c.as_slice-charts.ensures) c.requires.within)
+
+pub add_copy-requires-clause-canonical : goal.add_copy-requires-clause-canonical
+add_copy-requires-clause-canonical g c = (λ i. is_collected_canonical (defining (c.as_slice-charts.ensures i) (c.as_slice-dimensions.ensures i))) ∙ c.requires.canonical

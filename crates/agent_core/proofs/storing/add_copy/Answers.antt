@@ -19,26 +19,26 @@ use Rattle.agent_core.specs.Bound.{GrowsWithin}
 use Rattle.agent_core.proofs.BoundLemmas.{grows-none}
 use Rattle.agent_core.proofs.storing.add_copy.Goals as goal
 
-pub returns-in_default-clause-any_moment : goal.returns-in_default-clause-any_moment
-returns-in_default-clause-any_moment g c true_host set h copy holds sent = begins (λ disk images. inl (stays (g.H.Host.seen c.args.host.now).past c.args.store.now set h holds disk images))
+pub returns-in_err-kept-clause-any_moment : goal.returns-in_err-kept-clause-any_moment
+returns-in_err-kept-clause-any_moment g c true_host set h copy holds sent = begins (λ disk images. inl (stays (g.H.Host.seen c.args.host.now).past c.args.store.now set h holds disk images))
 
 pub returns-in_err-store_copy-clause-any_moment : goal.returns-in_err-store_copy-clause-any_moment
 returns-in_err-store_copy-clause-any_moment g c true_host set h copy holds sent =
     c.store_copy.ensures.any_moment true_host set h copy holds
-    (copy-of c.args.left.now.registry c.args.message.now c.args.defines.now c.args.beat.now h copy sent c.in-Ok.kept c.in-Ok.ensures.kept c.in-Ok.ensures.spelt)
+    (copy-of c.args.left.now.registry c.args.message.now c.args.charts.now c.args.dimensions.now c.args.beat.now h copy sent c.in_ok-kept.kept c.in_ok-kept.ensures.kept c.in_ok-kept.ensures.spelt)
 
 pub returns-clause-any_moment : goal.returns-clause-any_moment
 returns-clause-any_moment g c true_host set h copy holds sent =
     subst (λ (s : Seen). Throughout (EveryDisk (λ disk. StandsForHistory set h disk ⊎ StandsForHistory set (copied copy ∷ h) disk)) (g.H.Host.seen c.args.host.now).past s.past) (sym c.follow.ensures.host)
     (c.store_copy.ensures.any_moment true_host set h copy holds
-    (copy-of c.args.left.now.registry c.args.message.now c.args.defines.now c.args.beat.now h copy sent c.in-Ok.kept c.in-Ok.ensures.kept c.in-Ok.ensures.spelt))
+    (copy-of c.args.left.now.registry c.args.message.now c.args.charts.now c.args.dimensions.now c.args.beat.now h copy sent c.in_ok-kept.kept c.in_ok-kept.ensures.kept c.in_ok-kept.ensures.spelt))
 
 pub returns-clause-done : goal.returns-clause-done
 returns-clause-done g c =
     if_both c.follow.result _ _ _ c.follow.ensures.left_by c.follow.ensures.events (λ events by told true_host before set h copy holds was sent.
     let past = (g.H.Host.seen c.args.host.now).past in
     let now = (g.H.Host.seen c.store_copy.new.host).past in
-    let of = copy-of c.args.left.now.registry c.args.message.now c.args.defines.now c.args.beat.now h copy sent c.in-Ok.kept c.in-Ok.ensures.kept c.in-Ok.ensures.spelt in
+    let of = copy-of c.args.left.now.registry c.args.message.now c.args.charts.now c.args.dimensions.now c.args.beat.now h copy sent c.in_ok-kept.kept c.in_ok-kept.ensures.kept c.in_ok-kept.ensures.spelt in
     let stored = c.in_ok-store_copy.ensures.done true_host set h copy holds of in
     let applied = applied-all now _ set (copied copy ∷ h) stored in
     let awaits = subst (λ (n : ℕ). AwaitsAlarms set h (copied copy) (record c.store_copy.new.left { role = Copies n })) sent.child (c.in_ok-store_copy.ensures.awaits past before set h copy holds was of sent.registry_is) in
@@ -49,7 +49,7 @@ returns-clause-done g c =
 
 pub returns-in_err-store_copy-clause-keeps : goal.returns-in_err-store_copy-clause-keeps
 returns-in_err-store_copy-clause-keeps g c =
-    let p = err_from_is_err_and c.from_residual.result c.from_residual.ensures.1 in
+    let p = err_from_is_err_and c.from_residual-in_err-store_copy.result c.from_residual-in_err-store_copy.ensures.1 in
     rw (p.1, p.2) (keeps-err g.H.Host.honest (g.H.Host.seen c.args.host.now) (g.H.Host.seen c.store_copy.new.host) c.args.store.now c.store_copy.new.store c.in_err-store_copy.field-0.0 c.in_err-store_copy.ensures.keeps)
 
 pub returns-clause-keeps : goal.returns-clause-keeps
@@ -57,8 +57,8 @@ returns-clause-keeps g c =
     keeps-after g.H.Host.honest (g.H.Host.seen c.args.host.now) (g.H.Host.seen c.store_copy.new.host) (g.H.Host.seen c.follow.new.host) c.args.store.now c.store_copy.new.store c.follow.new.store
     c.in_ok-store_copy.field-0 c.follow.result c.in_ok-store_copy.ensures.keeps c.follow.ensures.host c.follow.ensures.store c.follow.ensures.memory
 
-pub returns-in_default-clause-bound : goal.returns-in_default-clause-bound
-returns-in_default-clause-bound g c true_host set h holds limit = grows-none set limit (g.H.Host.seen c.args.host.now).past c.args.store.now
+pub returns-in_err-kept-clause-bound : goal.returns-in_err-kept-clause-bound
+returns-in_err-kept-clause-bound g c true_host set h holds limit = grows-none set limit (g.H.Host.seen c.args.host.now).past c.args.store.now
 
 pub returns-clause-bound : goal.returns-clause-bound
 returns-clause-bound g c true_host set h holds limit =

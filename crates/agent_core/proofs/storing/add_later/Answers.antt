@@ -2,15 +2,17 @@ use Rattle.std.proofs.Common.{◌≡◌, ◌+◌, ℕ, suc, Some, Ok, Err, rules
 use Rattle.std.proofs.lemmas.Option.{slice_get-get_or}
 use Rattle.std.proofs.lemmas.Result.{err_from_is_err_and}
 use Rattle.history.specs.History.{copied}
+use Rattle.history.specs.Registry.{Registry}
 use Rattle.beat_tiers.specs.State.{TiersState}
 use Rattle.replication.specs.Copies.{latest as latest_of}
 use Rattle.replication.specs.Names.{beat_moment}
 use Rattle.link_frames.specs.DataForm.{has_rising_places, has_storage_numbers}
 use Rattle.agent_core.specs.Kept.{onto}
-use Rattle.agent_core.specs.Storing.{later_copies}
+use Rattle.agent_core.specs.Storing.{later_copies, named_series}
 use Rattle.agent_core.proofs.PrefixLemmas.{all-at, later-at, later_copy, latest-next, rises-at, room-moments, sent-later, stored-moments, stored-more, stored-none, stored-room, takes-next, HaveStored}
 use Rattle.agent_core.proofs.KeepsLemmas.{keeps-after, keeps-both, keeps-err, keeps-so-far, own-joined}
 use Rattle.agent_core.proofs.BoundLemmas.{grows-both, grows-none}
+use Rattle.agent_core.proofs.StoringLemmas.{nothing-canonical, nothing-within}
 use Rattle.agent_core.proofs.storing.add_later.Goals as goal
 
 pub loop-beat-init : goal.loop-beat-init
@@ -67,7 +69,7 @@ returns-in_err-more-clause-any_moment g c true_host set h holds by all =
     let stored = stored-room past (g.H.Host.seen c.loop-beat.host).past roomed set h more n c.loop-beat.store c.loop-beat.left c.loop-beat.events was
     (c.make_room.ensures.any_moment true_host set (onto h (take n more)) was.added.holds was.added.left_by) c.make_room.new.store
     (c.in_ok-make_room.ensures.done true_host set (onto h (take n more)) was.added.holds was.added.left_by) in
-    let sent = sent-later c.loop-beat.left.registry registry message c.nothing_defined-defines.result beat (onto h (take n more)) c.nothing_defined-defines.ensures.charts c.nothing_defined-defines.ensures.dimensions
+    let sent = sent-later c.loop-beat.left.registry registry message beat (onto h (take n more))
     c.loop-beat.invariant.registry stored.added.left_by.registry_is (takes-next h more n (copied (later_copy registry message beat)) here all) in
     stored-moments past roomed (g.H.Host.seen c.add_copy.new.host).past set h more n c.make_room.new.store c.loop-beat.left
     c.loop-beat.events stored (copied (later_copy registry message beat)) here (c.add_copy.ensures.any_moment true_host set (onto h (take n more)) (later_copy registry message beat) stored.added.holds sent)
@@ -88,7 +90,7 @@ returns-in_err-add_events-clause-any_moment g c true_host set h holds by all =
     let stored = stored-room past (g.H.Host.seen c.loop-beat.host).past roomed set h more n c.loop-beat.store c.loop-beat.left c.loop-beat.events was
     (c.make_room.ensures.any_moment true_host set (onto h (take n more)) was.added.holds was.added.left_by) c.make_room.new.store
     (c.in_ok-make_room.ensures.done true_host set (onto h (take n more)) was.added.holds was.added.left_by) in
-    let sent = sent-later c.loop-beat.left.registry registry message c.nothing_defined-defines.result beat (onto h (take n more)) c.nothing_defined-defines.ensures.charts c.nothing_defined-defines.ensures.dimensions
+    let sent = sent-later c.loop-beat.left.registry registry message beat (onto h (take n more))
     c.loop-beat.invariant.registry stored.added.left_by.registry_is (takes-next h more n (copied (later_copy registry message beat)) here all) in
     stored-moments past roomed (g.H.Host.seen c.add_copy.new.host).past set h more n c.make_room.new.store c.loop-beat.left
     c.loop-beat.events stored (copied (later_copy registry message beat)) here (c.add_copy.ensures.any_moment true_host set (onto h (take n more)) (later_copy registry message beat) stored.added.holds sent)
@@ -112,7 +114,7 @@ loop-beat-preserved g c =
           let stored = stored-room past (g.H.Host.seen c.loop-beat.host).past roomed set h more n c.loop-beat.store c.loop-beat.left c.loop-beat.events was
           (c.make_room.ensures.any_moment true_host set (onto h (take n more)) was.added.holds was.added.left_by) c.make_room.new.store
           (c.in_ok-make_room.ensures.done true_host set (onto h (take n more)) was.added.holds was.added.left_by) in
-          let sent = sent-later c.loop-beat.left.registry registry message c.nothing_defined-defines.result beat (onto h (take n more)) c.nothing_defined-defines.ensures.charts c.nothing_defined-defines.ensures.dimensions
+          let sent = sent-later c.loop-beat.left.registry registry message beat (onto h (take n more))
           c.loop-beat.invariant.registry stored.added.left_by.registry_is (takes-next h more n (copied (later_copy registry message beat)) here all) in
           let did = c.in_ok-more.ensures.done true_host c.loop-beat.left.registry set (onto h (take n more)) (later_copy registry message beat) stored.added.holds stored.added.left_by sent in
           subst (λ (k : ℕ). HaveStored (g.H.Host.seen c.args.host.now).past (g.H.Host.seen c.add_copy.new.host).past set h more k c.add_copy.new.store c.add_copy.new.left c.add_events.new.events) next
@@ -231,3 +233,12 @@ returns-in_err-add_events-clause-bound g c true_host set h holds by all limit fi
     let first = grows-both set limit past here roomed c.args.store.now c.loop-beat.store c.make_room.new.store so_far (c.make_room.ensures.bound true_host set (onto h (take n more)) was.added.holds was.added.left_by limit fits) in
     let room = c.in_ok-make_room.ensures.done true_host set (onto h (take n more)) was.added.holds was.added.left_by in
     grows-both set limit past roomed (g.H.Host.seen c.add_copy.new.host).past c.args.store.now c.make_room.new.store c.add_copy.new.store first (c.add_copy.ensures.bound true_host set (onto h (take n more)) room limit)
+
+pub add_copy-requires-clause-series : goal.add_copy-requires-clause-series
+add_copy-requires-clause-series g c = c.requires.series ∙ ap (λ (r : Registry). named_series r c.args.message.now.names) (sym c.loop-beat.invariant.registry)
+
+pub add_copy-requires-clause-within : goal.add_copy-requires-clause-within
+add_copy-requires-clause-within g c = nothing-within
+
+pub add_copy-requires-clause-canonical : goal.add_copy-requires-clause-canonical
+add_copy-requires-clause-canonical g c = nothing-canonical

@@ -23,20 +23,20 @@ use Rattle.agent_core.proofs.Within.{within-of}
 use Rattle.agent_core.proofs.BoundLemmas.{grows-both, grows-none}
 use Rattle.agent_core.proofs.storing.add_message.Goals as goal
 
-pub returns-in_default-clause-any_moment : goal.returns-in_default-clause-any_moment
-returns-in_default-clause-any_moment g c true_host set h holds was role = begins (λ disk images. (0, stays (g.H.Host.seen c.args.host.now).past c.args.store.now set h holds disk images))
+pub returns-in_err-defs-clause-any_moment : goal.returns-in_err-defs-clause-any_moment
+returns-in_err-defs-clause-any_moment g c true_host set h holds was role = begins (λ disk images. (0, stays (g.H.Host.seen c.args.host.now).past c.args.store.now set h holds disk images))
 
 pub define-requires-clause-is_open : goal.define-requires-clause-is_open
 define-requires-clause-is_open g c =
     let message = c.args.message.now in
     let form = c.requires.form in
-    subst IsOpenBeat (sym c.in-Ok.ensures) (defined-open message.names form.charts form.ids form.apart form.whole.names)
+    subst IsOpenBeat (sym c.in_ok-defs.ensures) (defined-open message.names form.charts form.ids form.apart form.whole.names)
 
 pub define-requires-clause-has_charts : goal.define-requires-clause-has_charts
 define-requires-clause-has_charts g c =
     let message = c.args.message.now in
     let form = c.requires.form in
-    ap (lacks_chart c.add_gap_before.new.left.registry) c.in-Ok.ensures ∙ defined-has message.names form.charts form.ids form.apart form.whole.names c.add_gap_before.new.left.registry
+    ap (lacks_chart c.add_gap_before.new.left.registry) c.in_ok-defs.ensures ∙ defined-has message.names form.charts form.ids form.apart form.whole.names c.add_gap_before.new.left.registry
 
 pub returns-in_err-add_gap_before-clause-any_moment : goal.returns-in_err-add_gap_before-clause-any_moment
 returns-in_err-add_gap_before-clause-any_moment g c true_host set h holds was role =
@@ -55,8 +55,8 @@ returns-in_err-make_room-clause-any_moment g c true_host set h holds was role =
     joined (message-before set h registry message past middle (c.add_gap_before.ensures.any_moment true_host set h holds was role))
     (message-behind set h registry message middle roomed (prefix-none set behind (sent_copies (with_names registry message) message message.beats) middle roomed (c.make_room.ensures.any_moment true_host set behind kept left)))
 
-pub returns-in_err-defines-clause-any_moment : goal.returns-in_err-defines-clause-any_moment
-returns-in_err-defines-clause-any_moment g c true_host set h holds was role =
+pub returns-in_err-numbers-clause-any_moment : goal.returns-in_err-numbers-clause-any_moment
+returns-in_err-numbers-clause-any_moment g c true_host set h holds was role =
     let past = (g.H.Host.seen c.args.host.now).past in
     let middle = (g.H.Host.seen c.add_gap_before.new.host).past in
     let roomed = (g.H.Host.seen c.make_room.new.host).past in
@@ -76,7 +76,7 @@ returns-clause-any_moment g c true_host set h holds was role =
     let message = c.args.message.now in
     let gone = c.add_gap_before.new.left in
     let same_registry : gone.registry ≡ registry = ap (λ (l : Left). l.registry) c.add_gap_before.ensures.only in
-    let defined : c.define.new.registry ≡ with_names gone.registry message = c.in_ok-defines.ensures.applied ∙ ap (λ (defs : OpenBeat). with_definitions gone.registry defs.charts defs.dimensions) c.in-Ok.ensures in
+    let defined : c.define.new.registry ≡ with_names gone.registry message = c.in_ok-numbers.ensures.applied ∙ ap (λ (defs : OpenBeat). with_definitions gone.registry defs.charts defs.dimensions) c.in_ok-defs.ensures in
     let is : c.define.new.registry ≡ with_names registry message = defined ∙ ap (λ (r : Registry). with_names r message) same_registry in
     let beats = c.as_slice-beats.result.now in
     let same : sent_copies c.define.new.registry message beats ≡ sent_copies (with_names registry message) message message.beats = λ i. sent_copies (is i) message (c.as_slice-beats.ensures i) in
@@ -103,7 +103,7 @@ returns-clause-done g c =
     let message = c.args.message.now in
     let gone = c.add_gap_before.new.left in
     let same_registry : gone.registry ≡ registry = ap (λ (l : Left). l.registry) c.add_gap_before.ensures.only in
-    let defined : c.define.new.registry ≡ with_names gone.registry message = c.in_ok-defines.ensures.applied ∙ ap (λ (defs : OpenBeat). with_definitions gone.registry defs.charts defs.dimensions) c.in-Ok.ensures in
+    let defined : c.define.new.registry ≡ with_names gone.registry message = c.in_ok-numbers.ensures.applied ∙ ap (λ (defs : OpenBeat). with_definitions gone.registry defs.charts defs.dimensions) c.in_ok-defs.ensures in
     let is : c.define.new.registry ≡ with_names registry message = defined ∙ ap (λ (r : Registry). with_names r message) same_registry in
     let beats = c.as_slice-beats.result.now in
     let same : sent_copies c.define.new.registry message beats ≡ sent_copies (with_names registry message) message message.beats = λ i. sent_copies (is i) message (c.as_slice-beats.ensures i) in
@@ -121,7 +121,7 @@ returns-clause-done g c =
 
 pub define-requires-clause-free : goal.define-requires-clause-free
 define-requires-clause-free g c =
-    ap (names_refusal c.add_gap_before.new.left.registry) c.in-Ok.ensures ∙ ap (λ (l : Left). names_refusal l.registry (definitions_in c.args.message.now.names)) c.add_gap_before.ensures.only ∙ c.requires.free
+    ap (names_refusal c.add_gap_before.new.left.registry) c.in_ok-defs.ensures ∙ ap (λ (l : Left). names_refusal l.registry (definitions_in c.args.message.now.names)) c.add_gap_before.ensures.only ∙ c.requires.free
 
 pub returns-clause-role : goal.returns-clause-role
 returns-clause-role g c =
@@ -139,19 +139,19 @@ returns-in_err-make_room-clause-keeps g c =
     rw (p.1, p.2) (keeps-err g.H.Host.honest (g.H.Host.seen c.args.host.now) (g.H.Host.seen c.make_room.new.host) c.args.store.now c.make_room.new.store c.in_err-make_room.field-0.0
     (keeps-both g.H.Host.honest (g.H.Host.seen c.args.host.now) (g.H.Host.seen c.add_gap_before.new.host) (g.H.Host.seen c.make_room.new.host) c.args.store.now c.add_gap_before.new.store c.make_room.new.store c.in_ok-add_gap_before.field-0 (Err c.in_err-make_room.field-0.0) c.in_ok-add_gap_before.ensures.keeps c.in_err-make_room.ensures.keeps))
 
-pub returns-in_err-defines-clause-keeps : goal.returns-in_err-defines-clause-keeps
-returns-in_err-defines-clause-keeps g c =
-    let p = err_from_is_err_and c.from_residual-in_err-defines.result c.from_residual-in_err-defines.ensures.1 in
-    rw (p.1, p.2) (keeps-after g.H.Host.honest (g.H.Host.seen c.args.host.now) (g.H.Host.seen c.make_room.new.host) (g.H.Host.seen c.make_room.new.host) c.args.store.now c.make_room.new.store c.make_room.new.store c.in_ok-make_room.field-0 (Err c.in_err-defines.field-0.0)
-    (keeps-both g.H.Host.honest (g.H.Host.seen c.args.host.now) (g.H.Host.seen c.add_gap_before.new.host) (g.H.Host.seen c.make_room.new.host) c.args.store.now c.add_gap_before.new.store c.make_room.new.store c.in_ok-add_gap_before.field-0 (Ok c.in_ok-make_room.field-0) c.in_ok-add_gap_before.ensures.keeps c.in_ok-make_room.ensures.keeps) refl refl c.in_err-defines.ensures.memory)
+pub returns-in_err-numbers-clause-keeps : goal.returns-in_err-numbers-clause-keeps
+returns-in_err-numbers-clause-keeps g c =
+    let p = err_from_is_err_and c.from_residual-in_err-numbers.result c.from_residual-in_err-numbers.ensures.1 in
+    rw (p.1, p.2) (keeps-after g.H.Host.honest (g.H.Host.seen c.args.host.now) (g.H.Host.seen c.make_room.new.host) (g.H.Host.seen c.make_room.new.host) c.args.store.now c.make_room.new.store c.make_room.new.store c.in_ok-make_room.field-0 (Err c.in_err-numbers.field-0.0)
+    (keeps-both g.H.Host.honest (g.H.Host.seen c.args.host.now) (g.H.Host.seen c.add_gap_before.new.host) (g.H.Host.seen c.make_room.new.host) c.args.store.now c.add_gap_before.new.store c.make_room.new.store c.in_ok-add_gap_before.field-0 (Ok c.in_ok-make_room.field-0) c.in_ok-add_gap_before.ensures.keeps c.in_ok-make_room.ensures.keeps) refl refl c.in_err-numbers.ensures.memory)
 
 pub returns-clause-keeps : goal.returns-clause-keeps
 returns-clause-keeps g c =
     keeps-both g.H.Host.honest (g.H.Host.seen c.args.host.now) (g.H.Host.seen c.make_room.new.host) (g.H.Host.seen c.add_beats.new.host) c.args.store.now c.make_room.new.store c.add_beats.new.store c.in_ok-make_room.field-0 c.add_beats.result
     (keeps-both g.H.Host.honest (g.H.Host.seen c.args.host.now) (g.H.Host.seen c.add_gap_before.new.host) (g.H.Host.seen c.make_room.new.host) c.args.store.now c.add_gap_before.new.store c.make_room.new.store c.in_ok-add_gap_before.field-0 (Ok c.in_ok-make_room.field-0) c.in_ok-add_gap_before.ensures.keeps c.in_ok-make_room.ensures.keeps) c.add_beats.ensures.keeps
 
-pub returns-in_default-clause-bound : goal.returns-in_default-clause-bound
-returns-in_default-clause-bound g c true_host set h holds was role limit fits =
+pub returns-in_err-defs-clause-bound : goal.returns-in_err-defs-clause-bound
+returns-in_err-defs-clause-bound g c true_host set h holds was role limit fits =
     grows-none set limit (g.H.Host.seen c.args.host.now).past c.args.store.now
 
 pub returns-in_err-add_gap_before-clause-bound : goal.returns-in_err-add_gap_before-clause-bound
@@ -170,8 +170,8 @@ returns-in_err-make_room-clause-bound g c true_host set h holds was role limit f
     (c.make_room.ensures.bound true_host set behind kept left limit fits) in
     room
 
-pub returns-in_err-defines-clause-bound : goal.returns-in_err-defines-clause-bound
-returns-in_err-defines-clause-bound g c true_host set h holds was role limit fits =
+pub returns-in_err-numbers-clause-bound : goal.returns-in_err-numbers-clause-bound
+returns-in_err-numbers-clause-bound g c true_host set h holds was role limit fits =
     let past = (g.H.Host.seen c.args.host.now).past in
     let middle = (g.H.Host.seen c.add_gap_before.new.host).past in
     let roomed = (g.H.Host.seen c.make_room.new.host).past in
@@ -192,7 +192,7 @@ returns-clause-bound g c true_host set h holds was role limit fits =
     let message = c.args.message.now in
     let gone = c.add_gap_before.new.left in
     let same_registry : gone.registry ≡ registry = ap (λ (l : Left). l.registry) c.add_gap_before.ensures.only in
-    let defined : c.define.new.registry ≡ with_names gone.registry message = c.in_ok-defines.ensures.applied ∙ ap (λ (defs : OpenBeat). with_definitions gone.registry defs.charts defs.dimensions) c.in-Ok.ensures in
+    let defined : c.define.new.registry ≡ with_names gone.registry message = c.in_ok-numbers.ensures.applied ∙ ap (λ (defs : OpenBeat). with_definitions gone.registry defs.charts defs.dimensions) c.in_ok-defs.ensures in
     let is : c.define.new.registry ≡ with_names registry message = defined ∙ ap (λ (r : Registry). with_names r message) same_registry in
     let beats = c.as_slice-beats.result.now in
     let same : sent_copies c.define.new.registry message beats ≡ sent_copies (with_names registry message) message message.beats = λ i. sent_copies (is i) message (c.as_slice-beats.ensures i) in

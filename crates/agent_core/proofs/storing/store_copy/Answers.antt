@@ -3,18 +3,14 @@ use Rattle.history.specs.History.{copied}
 use Rattle.agent_core.specs.Replay.{HasSeenCopy}
 use Rattle.agent_core.proofs.KeptLemmas.{climbs, copy-awaits, holds-beat}
 use Rattle.agent_core.proofs.Outcomes.{always, on_both}
-use Rattle.agent_core.proofs.StoringLemmas.{no-rows-there}
 use Rattle.agent_core.proofs.storing.store_copy.Goals as goal
-
-pub take_rows-requires : goal.take_rows-requires
-take_rows-requires g c = no-rows-there c.args.left.now.registry c.args.defines.now c.requires.no_rows
 
 pub returns-in_err-commit-clause-any_moment : goal.returns-in_err-commit-clause-any_moment
 returns-in_err-commit-clause-any_moment g c true_host set h copy holds of =
     climbs (g.H.Host.seen c.args.host.now).past c.args.store.now set h holds (copied copy) c.args.kept.now of (g.H.Host.seen c.commit.new.host).past (c.commit.ensures.any_moment true_host holds.stored holds.store_of)
 
-pub returns-in_err-take_rows-clause-any_moment : goal.returns-in_err-take_rows-clause-any_moment
-returns-in_err-take_rows-clause-any_moment g c true_host set h copy holds of =
+pub returns-in_err-make_room-clause-any_moment : goal.returns-in_err-make_room-clause-any_moment
+returns-in_err-make_room-clause-any_moment g c true_host set h copy holds of =
     climbs (g.H.Host.seen c.args.host.now).past c.args.store.now set h holds (copied copy) c.args.kept.now of (g.H.Host.seen c.commit.new.host).past (c.commit.ensures.any_moment true_host holds.stored holds.store_of)
 
 pub returns-clause-any_moment : goal.returns-clause-any_moment
@@ -30,6 +26,6 @@ returns-clause-done g c =
 pub returns-clause-awaits : goal.returns-clause-awaits
 returns-clause-awaits g c =
     on_both _ _ _ c.see_copy.result c.see_copy.ensures.seen c.see_copy.ensures.before (λ seen at past before set h copy holds was of is.
-    copy-awaits past c.args.store.now set h holds before c.args.left.now was copy c.args.kept.now c.args.moment of is c.requires.moment c.take_rows.new.last_rows c.see_copy.new.left c.see_copy.ensures.only
-    (c.in_ok-take_rows.ensures.room c.requires.no_rows) (subst (HasSeenCopy c.args.left.now.registry c.args.left.now.latest c.see_copy.new.left.latest c.args.moment) c.as_slice.ensures seen)
+    copy-awaits past c.args.store.now set h holds before c.args.left.now was copy c.args.kept.now c.args.moment of is c.requires.moment c.make_room.new.self c.see_copy.new.left c.see_copy.ensures.only
+    c.in_ok-make_room.ensures.ok (subst (HasSeenCopy c.args.left.now.registry c.args.left.now.latest c.see_copy.new.left.latest c.args.moment) c.as_slice.ensures seen)
     (at ∙ c.last-before.ensures))
