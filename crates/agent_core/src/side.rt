@@ -25,7 +25,7 @@ use crate::left::{Left, Role};
 use alarm_core::{AlarmFault, Alarms, Latest, SeriesPointList, SeriesValueList};
 use alarm_events::KeptAlarms;
 use algorithms::Last;
-use beat_entries::define;
+use beat_entries::{EntryRefusal, define};
 use beat_points::LastRows;
 use chart_registry::Registry;
 use fixed_num::{ByteList, ListOf};
@@ -261,8 +261,11 @@ fn defined(
         dimensions,
         rows: RowList::new(alloc),
     };
-    define(&mut registry, &beat)?;
-    Ok(registry)
+    match define(&mut registry, &beat) {
+        Ok(()) => Ok(registry),
+        Err(EntryRefusal::NotNext) => Err(AgentFault::Damaged(5)),
+        Err(EntryRefusal::Memory) => Err(AgentFault::Memory),
+    }
 }
 
 /// The alarms that were kept so, or the database is damaged.
