@@ -168,7 +168,9 @@ pub(crate) fn write_left(alloc: Global, left: &Left, floor: u32) -> Result<ByteL
         → length bytes ≤ side_limit (length (gaps_above floor left.now.gaps))) }
     ensures memory { IfErr result (λ fault. fault ≡ AgentFault.Memory) }
 {
-    let side = side_of(alloc, left, floor)?;
+    let Ok(side) = side_of(alloc, left, floor) else {
+        return Err(AgentFault::Memory);
+    };
     if !is_short(&side) {
         return Err(AgentFault::Memory);
     }
