@@ -303,15 +303,14 @@ impl Agent {
         if let Some(cause) = self.fault {
             return Err(AgentFault::Reopen(cause));
         }
-        let judged = judge_beat(
+        let numbered = match judge_beat(
             self.alloc,
             &self.left.registry,
             self.left.role.copies(),
             self.last,
             moment,
             beat,
-        );
-        let numbered = match judged {
+        ) {
             Ok(numbered) => numbered,
             Err(BeatFault::Refused(reason)) => return Err(AgentFault::Refused(reason)),
             Err(BeatFault::Memory) => {

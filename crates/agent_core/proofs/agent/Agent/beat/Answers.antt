@@ -74,7 +74,7 @@ returns-in-Err-Refused g c =
     let moment = c.args.moment in
     let beat = c.args.beat.now in
     let inside = c.self.inside in
-    let judged = rw c.in-Err-Refused.field-0-is at (c.in-Err-Refused.ensures-1.judged) in
+    let judged = rw c.in-Err-Refused.field-0-is at (c.in-Err-Refused.ensures.judged) in
     let against : beat_refusal agent.registry (copies agent.role) agent.last moment beat ≡ Some c.in-Err-Refused.reason =
     ap (λ (a : AgentState). beat_refusal a.registry (copies a.role) a.last moment beat) (sym c.self.view_is)
     ∙ (ap (λ (b : Bool). beat_refusal inside.left.registry b inside.last moment beat) (sym c.copies.ensures) ∙ judged) in
@@ -97,7 +97,7 @@ returns-in-Err-Memory g c =
     let host : Seen = g.H.Host.seen c.args.host.now in
     let moment = c.args.moment in
     let beat = c.args.beat.now in
-    let judged = rw c.in-Err-Memory.field-0-is at (c.in-Err-Memory.ensures-1.judged) in
+    let judged = rw c.in-Err-Memory.field-0-is at (c.in-Err-Memory.ensures.judged) in
     let free : beat_refusal inside.registry (copies inside.role) inside.last moment beat ≡ None =
     ap (λ (b : Bool). beat_refusal inside.registry b inside.last moment beat) (sym c.copies.ensures) ∙ judged in
     subst (λ (a : AgentState). Beats g.H.Host.honest host a beat moment (Err Memory) host (short_of inside)) c.self.view_is (beat-short g.H.Host.honest host inside beat moment c.in_default.is free)
