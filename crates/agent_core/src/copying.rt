@@ -1,6 +1,6 @@
 //! What the message of a child defines, and what a store keeps of its beats.
 
-ghost use Rattle.std.specs.Prelude.{◌≡◌, [], ◌++◌, ◌<◌, ◌≤◌, ◌^◌, true, length, map, filter_map, All, Some, IfOk, OnOk};
+ghost use Rattle.std.specs.Prelude.{◌≡◌, [], ◌++◌, ◌<◌, ◌≤◌, true, length, map, filter_map, All, Some, IfOk, OnOk};
 ghost use Rattle.std.specs.List.{cons_option, AllByRecursion};
 ghost use Rattle.std.specs.List.Sorted.{IsNonDecreasingBy, IsPermutation};
 ghost use Rattle.history.specs.Limits.{chart_keeps_limits, dimension_keeps_limits};
@@ -13,7 +13,7 @@ ghost use Rattle.entry_codec.specs.Charts.{IsCopiedChart};
 ghost use Rattle.entry_codec.specs.Dimensions.{IsCopiedDimension};
 ghost use Rattle.entry_codec.specs.Entries.{entry_bytes, is_collected_canonical, HasSpelling, IsWithinLimits};
 ghost use Rattle.entry_codec.specs.Words.{IsCopiedWord};
-ghost use Rattle.store_core.specs.beats.Beats.{beat_bytes, InForm};
+ghost use Rattle.store_core.specs.beats.Beats.{FitsARecord, InForm};
 ghost use Rattle.beat_entries.specs.Copied.{told_chart, told_dimension};
 ghost use Rattle.replication.specs.Verdict.{is_stored};
 ghost use Rattle.link_frames.specs.DataForm.{has_rising_places, has_storage_numbers};
@@ -385,7 +385,7 @@ pub(crate) fn kept_copy(
     ensures moment { IfOk result (λ kept. kept.moment ≡ Some beat.now.moment) }
     ensures named { IfOk result (λ kept. names_series registry.now kept.points ≡ true) }
     ensures form { IfOk result InForm }
-    ensures size { IfOk result (λ kept. length (beat_bytes kept) ≤ 2 ^ 26) }
+    ensures size { IfOk result FitsARecord }
 {
     let words = numbered_words(alloc, series, beat)?;
     let points = stored_points(alloc, registry, words.as_slice())?;
@@ -418,7 +418,7 @@ pub(crate) fn kept_gap(alloc: Global, child: u64, from: u32, to: u32) -> Result<
     ensures spelt { OnOk result
         (HasSpelling (gap_entry (record { child = child; from = from; to = to }))) }
     ensures form { IfOk result InForm }
-    ensures size { IfOk result (λ kept. length (beat_bytes kept) ≤ 2 ^ 26) }
+    ensures size { IfOk result FitsARecord }
 {
     match write_entry(alloc, &Entry::Gap(Gap { child, from, to })) {
         Ok(note) => Ok(Beat {

@@ -12,7 +12,7 @@ ghost use Rattle.history.specs.Numbered.{numbered_beat, IsThere};
 ghost use Rattle.entry_codec.specs.declared.entry.Entry.TheVariants as entry;
 ghost use Rattle.tier_settings.specs.declared.settings.Settings.{Settings as ASettings};
 ghost use Rattle.entry_codec.specs.Entries.{entry_bytes, is_collected_canonical, HasSpelling, IsWithinLimits};
-ghost use Rattle.store_core.specs.beats.Beats.{beat_bytes, InForm};
+ghost use Rattle.store_core.specs.beats.Beats.{FitsARecord, InForm};
 ghost use Rattle.store_core.specs.beats.Records.{last_after};
 ghost use Rattle.store_core.specs.Stands.{StandsAround};
 ghost use Rattle.store_core.specs.Store.{is_due, IsReady, IsReplayed, IsStoreOf};
@@ -65,7 +65,7 @@ fn stored_beat(
     ensures moment { IfOk result (λ kept. kept.moment ≡ Some numbered.now.moment) }
     ensures named { IfOk result (λ kept. names_series registry.now kept.points ≡ true) }
     ensures form { IfOk result InForm }
-    ensures size { IfOk result (λ kept. length (beat_bytes kept) ≤ 2 ^ 26) }
+    ensures size { IfOk result FitsARecord }
 {
     let Ok(words) = last_rows.points(alloc, registry, numbered) else {
         return Err(AllocError);
@@ -131,7 +131,7 @@ pub(crate) fn commit<H: Host>(
     requires not_due { is_due store.old ≡ false }
     requires later { IfSome kept.now.moment (λ moment. store.old.tiers.last < moment) }
     requires form { InForm kept.now }
-    requires size { length (beat_bytes kept.now) ≤ 2 ^ 26 }
+    requires size { FitsARecord kept.now }
     ensures any_moment { H.honest → (stored : AStored)
         → IsStoreOf (H.seen host.old).past store.old stored
         → Throughout (EveryDisk (StandsAround stored kept.now)) (H.seen host.old).past
@@ -180,7 +180,7 @@ fn health_beat(alloc: Global, text: &[u8]) -> Result<Beat, AllocError>
     }) }
     ensures spelt { OnOk result (HasSpelling (entry.Health text.now)) }
     ensures form { IfOk result InForm }
-    ensures size { IfOk result (λ kept. length (beat_bytes kept) ≤ 2 ^ 26) }
+    ensures size { IfOk result FitsARecord }
 {
     let entry = Entry::Health(ByteList::from_slice(alloc, text)?);
     match write_entry(alloc, &entry) {

@@ -1,6 +1,6 @@
 //! How the gap and the beats of a child's message are added to a history.
 
-ghost use Rattle.std.specs.Prelude.{◌≡◌, ◌<◌, ◌≤◌, ◌+◌, ◌^◌, ◌++◌, ◌∷◌, ◌⊎◌, [], ℕ, List, Some, None, true, false, length, IfOk, IfErr, OnOk};
+ghost use Rattle.std.specs.Prelude.{◌≡◌, ◌<◌, ◌≤◌, ◌+◌, ◌++◌, ◌∷◌, ◌⊎◌, [], ℕ, List, Some, None, true, false, length, IfOk, IfErr, OnOk};
 ghost use Rattle.alarm_core.specs.UpTo.{IsUpTo};
 ghost use Rattle.host_model.specs.Past.{Event};
 ghost use Rattle.host_model.specs.Disks.{EveryDisk};
@@ -15,7 +15,7 @@ ghost use Rattle.replication.specs.Copies.{latest as latest_of};
 ghost use Rattle.replication.specs.Names.{beat_moment};
 ghost use Rattle.link_frames.specs.DataForm.{has_rising_places, has_storage_numbers, IsData};
 ghost use Rattle.link_frames.specs.DataForm.{AreApart as AreNamesApart};
-ghost use Rattle.store_core.specs.beats.Beats.{beat_bytes, InForm};
+ghost use Rattle.store_core.specs.beats.Beats.{FitsARecord, InForm};
 ghost use Rattle.store_core.specs.Store.{is_due, IsReady, IsReplayed};
 ghost use Rattle.agent_core.specs.Bound.{GrowsWithin};
 ghost use Rattle.agent_core.specs.Copying.{beats_of, definitions_in, names_refusal};
@@ -100,7 +100,7 @@ fn store_copy<H: Host>(
     requires moment { kept.now.moment ≡ Some moment }
     requires named { names_series left.old.registry kept.now.points ≡ true }
     requires form { InForm kept.now }
-    requires size { length (beat_bytes kept.now) ≤ 2 ^ 26 }
+    requires size { FitsARecord kept.now }
     ensures any_moment { H.honest → (set : ASettings) (g : List HistoryBeat) (copy : Copy)
         → HoldsHistory (H.seen host.old).past store.old set g → IsCopyOf g copy kept.now
         → Throughout (EveryDisk (λ disk. StandsForHistory set g disk

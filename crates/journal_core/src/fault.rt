@@ -6,7 +6,7 @@ pub enum JournalFault {
     /// A call on the disk failed.
     #[error("the disk failed")]
     DiskFault,
-    /// A record of more than 2^26 bytes.
+    /// A record of more than `RECORD_LIMIT` bytes.
     #[error("a record has more than 67108864 bytes")]
     TooLong,
     /// The file is no journal of the generation that was asked for: no journal goes on at this place.

@@ -4,13 +4,17 @@ ghost use Rattle.host_model.specs.Past.{On, of};
 ghost use Rattle.host_model.specs.Cause.{HasCause};
 ghost use Rattle.host_model.specs.Moments.{Throughout, EveryImage, OnlyOn};
 ghost use Rattle.journal_core.specs.Form.{record_size, FailsAt};
+ghost use Rattle.journal_core.specs.declared.journal.TheConstants.{RECORD_LIMIT};
 
 use crate::fault::JournalFault;
-use crate::reading::{LONGEST, RecordList, read_journal};
+use crate::reading::{RecordList, read_journal};
 use crate::store::store;
 use host_model::{File, Host};
 use std::alloc::Global;
 use std::marker::Model;
+
+/// The most bytes that a record may have.
+pub const RECORD_LIMIT: usize = 1 << 26;
 
 /// A journal in a file of a host, whose records have been read. It holds where the journal ends, and
 /// no record.
@@ -125,7 +129,7 @@ impl Journal {
         ensures journal_stays { OnErr result (self.new ≡ self.old) }
 
         // A record that is too long is refused before the host is asked for anything.
-        ensures too_long { IsErrOf result JournalFault.TooLong ↔ (2 ^ 26 < length body.now) }
+        ensures too_long { IsErrOf result JournalFault.TooLong ↔ (RECORD_LIMIT < length body.now) }
         ensures untouched { IsErrOf result JournalFault.TooLong → host.new ≡ host.old }
         ensures faults { IfErr result
             (λ fault. (fault ≡ JournalFault.DiskFault) ⊎ (fault ≡ JournalFault.TooLong)) }
@@ -134,7 +138,7 @@ impl Journal {
         ensures output { (H.seen host.new).tell_faults ≡ (H.seen host.old).tell_faults }
         ensures reads { (H.seen host.new).reads ≡ (H.seen host.old).reads }
     {
-        if body.len() > LONGEST {
+        if body.len() > RECORD_LIMIT {
             return Err(JournalFault::TooLong);
         }
         if store(host, self.file, self.bytes - 1, body).is_err() {

@@ -3,7 +3,7 @@
 //! A journal begins with the eight bytes `NDAJRNL1` and its generation in eight more, the lowest first.
 //! At byte 16 stands a gate byte. Where a gate byte is 1, the length of a record follows in four bytes,
 //! the lowest first, then the record, and then the next gate byte. Any other gate byte ends the records,
-//! and bytes behind it have no meaning. A record has at most 2^26 bytes.
+//! and bytes behind it have no meaning. A record has at most `RECORD_LIMIT` bytes.
 //!
 //! A record is written and synced behind the closed gate, and then the gate is opened in a write of its
 //! own, while all that it opens is stable. So at every moment a crash leaves the records that were there,
@@ -25,7 +25,7 @@ mod start;
 mod store;
 
 pub use fault::JournalFault;
-pub use journal::Journal;
+pub use journal::{Journal, RECORD_LIMIT};
 pub use law::bytes_hold_one_journal;
 pub use reading::RecordList;
 pub use start::prepare;

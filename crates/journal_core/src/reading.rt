@@ -8,6 +8,7 @@ ghost use Rattle.journal_core.specs.Reading.{IfNotAJournal, BeginsWith, SeenWith
 
 use crate::fault::JournalFault;
 use crate::form::header_of;
+use crate::journal::RECORD_LIMIT;
 use crate::piece::{AHEAD, Piece};
 use fixed_num::{ByteList, ListOf};
 use host_model::{File, Host};
@@ -15,9 +16,6 @@ use std::alloc::Global;
 
 /// The records of a journal, the oldest first.
 pub type RecordList = ListOf<ByteList>;
-
-/// The most bytes that a record may have.
-pub(crate) const LONGEST: usize = 1 << 26;
 
 /// What stands at the place of a gate.
 #[derive(Clone, Copy, Debug)]
@@ -135,7 +133,7 @@ fn next_of(seen: &[u8]) -> Next
         return Next::Broken(count);
     }
     let size = u32::from_le_bytes([seen[1], seen[2], seen[3], seen[4]]);
-    if size as usize > LONGEST {
+    if size as usize > RECORD_LIMIT {
         return Next::Broken(4);
     }
     Next::Record(size)

@@ -6,6 +6,7 @@ ghost use Rattle.host_model.specs.Moments.{Throughout, EveryImage, OnlyOn};
 ghost use Rattle.journal_core.specs.Form.{opened, record_size, StandsFor};
 ghost use Rattle.journal_core.specs.Journal.{StandsForEither};
 ghost use Rattle.journal_core.specs.Store.{KeepsThrough, Stages};
+ghost use Rattle.journal_core.specs.declared.journal.TheConstants.{RECORD_LIMIT};
 
 use crate::form::length_bytes;
 use crate::gate::open_gate;
@@ -15,7 +16,7 @@ use host_model::{Failed, File, Host};
 /// leaves the journal with the record or without it.
 pub(crate) fn store<H: Host>(host: &mut H, file: File, gate: u64, body: &[u8]) -> Result<(), Failed>
     requires room { gate ≤ 2 ^ 60 }
-    requires size { length body.now ≤ 2 ^ 26 }
+    requires size { length body.now ≤ RECORD_LIMIT }
     requires stable { H.honest → IsSynced (of file (H.seen host.old).past) }
     requires inside { H.honest → gate < length (contents (of file (H.seen host.old).past)) }
     ensures stored { OnOk result (H.honest → (generation : ℕ) (records : List (List ℕ))
@@ -46,7 +47,7 @@ pub(crate) fn store<H: Host>(host: &mut H, file: File, gate: u64, body: &[u8]) -
 /// Writes a record behind a closed gate, with a closed gate behind it, and syncs them.
 fn stage<H: Host>(host: &mut H, file: File, gate: u64, body: &[u8]) -> Result<(), Failed>
     requires room { gate ≤ 2 ^ 60 }
-    requires size { length body.now ≤ 2 ^ 26 }
+    requires size { length body.now ≤ RECORD_LIMIT }
     requires stable { H.honest → IsSynced (of file (H.seen host.old).past) }
     requires inside { H.honest → gate < length (contents (of file (H.seen host.old).past)) }
     ensures staged { OnOk result (H.honest → Stages gate body.now

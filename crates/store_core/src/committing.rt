@@ -1,13 +1,13 @@
 //! A beat is added.
 
-ghost use Rattle.std.specs.Prelude.{◌≡◌, ◌↔◌, ◌+◌, ◌≤◌, ◌^◌, ℕ, None, false, true, length, IfErr, IsErrOf, IsSomeAnd, OnErr, OnOk};
+ghost use Rattle.std.specs.Prelude.{◌≡◌, ◌↔◌, ◌+◌, ◌≤◌, ℕ, None, false, true, IfErr, IsErrOf, IsSomeAnd, OnErr, OnOk};
 ghost use Rattle.host_model.specs.Cause.{HasCause};
 ghost use Rattle.host_model.specs.Disks.{EveryDisk};
 ghost use Rattle.host_model.specs.Moments.{Throughout};
 ghost use Rattle.beat_tiers.specs.State.{after_beat};
 ghost use Rattle.store_core.specs.disk.Holds.{OnlyOwn};
 ghost use Rattle.store_core.specs.disk.Shares.{share, IsWithin};
-ghost use Rattle.store_core.specs.beats.Beats.{beat_bytes, InForm};
+ghost use Rattle.store_core.specs.beats.Beats.{FitsARecord, InForm};
 ghost use Rattle.store_core.specs.Faults.{fault_after, IsCommitFault, IsStepFault, LeavesAll, Reopens};
 ghost use Rattle.store_core.specs.beats.Records.{is_later};
 ghost use Rattle.store_core.specs.Counts.{raised};
@@ -36,7 +36,7 @@ impl Store {
         requires replayed { IsReplayed self.old }
         requires not_due { is_due self.old ≡ false }
         requires form { InForm beat.now }
-        requires size { length (beat_bytes beat.now) ≤ 2 ^ 26 }
+        requires size { FitsARecord beat.now }
         ensures any_moment { H.honest → (stored : AStored)
             → IsStoreOf (H.seen host.old).past self.old stored
             → Throughout (EveryDisk (StandsAround stored beat.now)) (H.seen host.old).past
@@ -102,7 +102,7 @@ impl Store {
         requires replayed { IsReplayed self.old }
         requires not_due { is_due self.old ≡ false }
         requires form { InForm beat.now }
-        requires size { length (beat_bytes beat.now) ≤ 2 ^ 26 }
+        requires size { FitsARecord beat.now }
         requires later { is_later self.old.tiers.last beat.now.moment ≡ true }
         ensures any_moment { H.honest → (stored : AStored)
             → IsStoreOf (H.seen host.old).past self.old stored

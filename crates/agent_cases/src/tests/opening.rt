@@ -1,8 +1,8 @@
 //! Which databases open, by their side and their notes.
 
-ghost use Rattle.std.specs.Prelude.{◌<◌, ◌≤◌, ◌^◌, length, IfOk};
+ghost use Rattle.std.specs.Prelude.{◌<◌, IfOk};
 ghost use Rattle.agent_cases.specs.Ready.{IsReadyOn};
-ghost use Rattle.store_core.specs.beats.Beats.{beat_bytes, InForm};
+ghost use Rattle.store_core.specs.beats.Beats.{FitsARecord, InForm};
 ghost use Rattle.store_core.specs.Store.{IsReplayed};
 
 use super::*;
@@ -23,7 +23,7 @@ fn point(series: u32) -> BeatPoint {
 /// A beat of a store.
 fn kept(alloc: Global, moment: Option<u32>, note: &[u8], points: &[BeatPoint]) -> Result<Beat, Fail>
     ensures form { IfOk result InForm }
-    ensures size { IfOk result (λ beat. length (beat_bytes beat) ≤ 2 ^ 26) }
+    ensures size { IfOk result FitsARecord }
 {
     let beat = Beat {
         moment,
@@ -58,7 +58,7 @@ fn add(store: &mut Store, host: &mut MemoryHost, beat: &Beat) -> Result<(), Stor
     requires ready { IsReadyOn host.old store.old }
     requires replayed { IsReplayed store.old }
     requires form { InForm beat.now }
-    requires size { length (beat_bytes beat.now) ≤ 2 ^ 26 }
+    requires size { FitsARecord beat.now }
     ensures ready { IsReadyOn host.new store.new }
     ensures replayed { IsReplayed store.new }
 {
@@ -84,8 +84,7 @@ fn note(
 /// Makes a database with two beats.
 fn two_notes(alloc: Global, host: &mut MemoryHost, first: &Beat, second: &Beat) -> Result<(), Fail>
     requires forms { InForm first.now × InForm second.now }
-    requires sizes { (length (beat_bytes first.now) ≤ 2 ^ 26)
-        × (length (beat_bytes second.now) ≤ 2 ^ 26) }
+    requires sizes { FitsARecord first.now × FitsARecord second.now }
 {
     let mut store = make_side(alloc, host, NOTHING.as_slice())?;
     add(&mut store, host, first)?;
@@ -230,8 +229,7 @@ fn a_copied_beat_that_does_not_go_on_is_damage(rt: HostRuntime) -> Result<(), Fa
 /// What opening answers where there are two beats with these notes.
 fn opened_two(alloc: Global, first: &Beat, second: &Beat) -> Result<Option<AgentFault>, Fail>
     requires forms { InForm first.now × InForm second.now }
-    requires sizes { (length (beat_bytes first.now) ≤ 2 ^ 26)
-        × (length (beat_bytes second.now) ≤ 2 ^ 26) }
+    requires sizes { FitsARecord first.now × FitsARecord second.now }
 {
     let mut host = host_of(alloc, &[])?;
     two_notes(alloc, &mut host, first, second)?;

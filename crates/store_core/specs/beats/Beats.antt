@@ -1,7 +1,8 @@
 -- Beats as the records of a journal: which of them are in form, how they are spelt, and what bytes read as.
-use Rattle.std.specs.Prelude.{◌≡◌, ℕ, zero, suc, ◌<◌, ◌^◌, Bool, true, false, ◌&&◌, nat_le, nat_lt, List, [], ◌∷◌, ◌++◌, length, map, Option, Some, None, Ok, Err, if◌then◌else◌}
+use Rattle.std.specs.Prelude.{◌≡◌, ℕ, zero, suc, ◌<◌, ◌≤◌, ◌^◌, Bool, true, false, ◌&&◌, nat_le, nat_lt, List, [], ◌∷◌, ◌++◌, length, map, Option, Some, None, Ok, Err, if◌then◌else◌}
 use Rattle.std.specs.List.{list_all}
 use Rattle.tier_settings.specs.declared.limits.TheConstants.{LONGEST_STEP, MOST_SERIES}
+use Rattle.journal_core.specs.declared.journal.TheConstants.{RECORD_LIMIT}
 use Rattle.storage_number.specs.Word.{is_word}
 use Rattle.field_codec.specs.Reading.{ReadOf, read_as, read_u32, read_bytes}
 use Rattle.field_codec.specs.Spelling.{u32_bytes, sized_bytes, list_bytes}
@@ -73,6 +74,10 @@ read_fields bytes = read_as beat_of (read_moment bytes >> read_list read_point >
 
 unfoldable pub beat_bytes : Beat → List ℕ
 beat_bytes b = moment_bytes b.moment ++ list_bytes point_bytes b.points ++ sized_bytes b.note
+
+-- the record of a journal can hold it
+abbrev pub FitsARecord : Beat → Type 0
+FitsARecord b = length (beat_bytes b) ≤ RECORD_LIMIT
 
 -- its numbers and lists are as short as their spelling allows
 pub record IsShort (b : Beat) : Type 0 where

@@ -1,9 +1,10 @@
-ghost use Rattle.std.specs.Prelude.{◌≡◌, ◌≤◌, ◌^◌, ◌↔◌, length, IsTrue};
-ghost use Rattle.store_core.specs.beats.Beats.{beat_bytes, InForm};
+ghost use Rattle.std.specs.Prelude.{◌↔◌, IsTrue};
+ghost use Rattle.store_core.specs.beats.Beats.{FitsARecord, InForm};
 
 use crate::beats::form;
 pub use beat_tiers::{BeatPoint, BeatPointList};
 use fixed_num::ByteList;
+use journal_core::RECORD_LIMIT;
 
 /// What one beat adds to a database.
 #[derive(Debug, Drop)]
@@ -26,14 +27,13 @@ impl Beat {
         form::has_form(self) && form::is_short(self)
     }
 
-    /// Whether the record of a journal can hold the beat: it has at most 2^26 bytes, 12 for each
-    /// point, the bytes of the note, and 12 more.
+    /// Whether the record of a journal can hold the beat: it has at most `RECORD_LIMIT` bytes, 12 for
+    /// each point, the bytes of the note, and 12 more.
     #[tactic(auto, using(crate::proofs::BeatProofs::BeatLaw::beat_size))]
     pub fn fits_a_record(&self) -> bool
-        ensures { IsTrue result ↔ (length (beat_bytes self.now) ≤ 2 ^ 26) }
+        ensures { IsTrue result ↔ FitsARecord self.now }
     {
-        let most = 1 << 26;
         let (points, note) = (self.points.len(), self.note.len());
-        points <= most && note <= most && 12 + 12 * points + note <= most
+        points <= RECORD_LIMIT && note <= RECORD_LIMIT && 12 + 12 * points + note <= RECORD_LIMIT
     }
 }

@@ -9,8 +9,8 @@ pub returns-then-count-lt5-clause-begins : goal.returns-then-count-lt5-clause-be
 returns-then-count-lt5-clause-begins c bytes is_seen =
     begins_short c.args.seen.now bytes (λ i. omega (arith, c.type_inv.seen i)) (omega arith) (omega arith) (omega arith) is_seen
 
-pub returns-then-size-gt-LONGEST-clause-begins : goal.returns-then-size-gt-LONGEST-clause-begins
-returns-then-size-gt-LONGEST-clause-begins c bytes is_seen =
+pub returns-then-size-gt-RECORD_LIMIT-clause-begins : goal.returns-then-size-gt-RECORD_LIMIT-clause-begins
+returns-then-size-gt-RECORD_LIMIT-clause-begins c bytes is_seen =
     begins_long c.args.seen.now bytes c.from_le_bytes-size.result (λ i. omega (arith, c.type_inv.seen i)) (omega arith) (omega arith) c.from_le_bytes-size.ensures (omega arith) is_seen
 
 pub returns-clause-begins : goal.returns-clause-begins

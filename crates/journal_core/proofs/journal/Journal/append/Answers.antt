@@ -7,8 +7,8 @@ use Rattle.journal_core.specs.Journal.{IsOpen, JournalState}
 use Rattle.journal_core.proofs.StoreLemmas.{gate_inside, open_stands, after_store}
 use Rattle.journal_core.proofs.journal.Journal.append.Goals as goal
 
-pub returns-then-body-gt-LONGEST-clause-any_moment : goal.returns-then-body-gt-LONGEST-clause-any_moment
-returns-then-body-gt-LONGEST-clause-any_moment g c h records is_open =
+pub returns-then-body-gt-RECORD_LIMIT-clause-any_moment : goal.returns-then-body-gt-RECORD_LIMIT-clause-any_moment
+returns-then-body-gt-RECORD_LIMIT-clause-any_moment g c h records is_open =
     begins (λ bytes image. inl (open_stands c.args.self.now (g.H.Host.seen c.args.host.now).past records is_open bytes image))
 
 pub store-requires-clause-inside : goal.store-requires-clause-inside
@@ -23,8 +23,8 @@ returns-clause-stored g c h records is_open =
     after_store g.H.Host.honest c.store.result (record { file = c.self.inside.file; generation = c.self.inside.generation; bytes = c.self.inside.bytes }) c.args.self.now (g.H.Host.seen c.args.host.now).past (g.H.Host.seen c.store.new.host).past records c.args.body.now
     c.self.view_is (sym c.if-is_err.ensures.value) h c.store.ensures.stored c.store.ensures.synced is_open
 
-pub returns-then-body-gt-LONGEST-clause-bound : goal.returns-then-body-gt-LONGEST-clause-bound
-returns-then-body-gt-LONGEST-clause-bound g c size fits h short = begins short
+pub returns-then-body-gt-RECORD_LIMIT-clause-bound : goal.returns-then-body-gt-RECORD_LIMIT-clause-bound
+returns-then-body-gt-RECORD_LIMIT-clause-bound g c size fits h short = begins short
 
 pub returns-then-is_err-clause-bound : goal.returns-then-is_err-clause-bound
 returns-then-is_err-clause-bound g c size fits h short =
