@@ -23,6 +23,6 @@ ok_no_err last wrong = cc
 pub returns-in-Ok-clause-order : goal.returns-in-Ok-clause-order
 returns-in-Ok-clause-order g c = (
   λ wrong. absurd (ok_no_err _ wrong),
-  λ both. absurd (later_not_before c.last.result c.args.self.now.tiers.last c.args.beat.now.moment (c.last.ensures ∙ ap (λ (s : StoreState). s.tiers.last) c.self.view_is)
+  λ both. absurd (later_not_before c.last-last.result c.args.self.now.tiers.last c.args.beat.now.moment (c.last-last.ensures ∙ ap (λ (s : StoreState). s.tiers.last) c.self.view_is)
       (sym c.if-not-is_later.ensures) both.1),
 )
