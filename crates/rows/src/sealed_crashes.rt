@@ -122,12 +122,8 @@ fn all_ends(alloc: Global, keep: Keep) -> Result<Ends, Fail> {
 fn crashes_of_a_beat_that_seals(rt: HostRuntime) -> Result<(), Fail> {
     for keep in [Keep::All, Keep::None, Keep::Fill(255)] {
         let ends = all_ends(rt.alloc(), keep)?;
-        let wanted = Ends {
-            disk: 0,
-            told: 1,
-            wrong: None,
-        };
-        assert_eq!(rt; ends, wanted, "{keep:?}");
+        assert_eq!(rt; (ends.told, ends.wrong), (1, None), "{keep:?}");
+        assert!(rt; ends.disk >= 15, "{keep:?}: {ends:?}");
     }
     Ok(())
 }
