@@ -35,6 +35,8 @@ mod run;
 #[cfg(test)]
 mod script;
 #[cfg(test)]
+mod sealed_crashes;
+#[cfg(test)]
 mod steps;
 #[cfg(test)]
 mod stored;
