@@ -220,7 +220,7 @@ fn there_is_one_database_on_a_disk(rt: HostRuntime) -> Result<(), Fail> {
 fn the_moments_of_beats_rise(rt: HostRuntime) -> Result<(), Fail> {
     let mut host = new_host(rt.alloc())?;
     let answer = made(rt.alloc(), &mut host, &[(60, 1), (60, 1)]).err();
-    assert_eq!(rt; answer, Some(StoreFault::MomentOrder));
+    assert_eq!(rt; answer, Some(StoreFault::MomentOrder(60)));
     Ok(())
 }
 
