@@ -8,7 +8,7 @@ use Rattle.host_model.specs.declared.status.Status.TheVariants as status
 use Rattle.host_model.specs.Disks.{EveryDisk, reads_as}
 use Rattle.host_model.specs.Images.{contents, Change, IsImage}
 use Rattle.host_model.specs.Moments.{EveryCrash, Throughout, begins}
-use Rattle.host_model.specs.Past.{Event, Told, told, of, IsDisk, IsText, MayAdd}
+use Rattle.host_model.specs.Past.{Event, Told, told, of, IsDisk, IsText, MayAdd, TellsPrefix}
 use Rattle.host_model.specs.Seen.{Seen}
 use Rattle.host_model.proofs.DiskLemmas.{untold}
 use Rattle.host_model.proofs.MomentLemmas.{at_end, joined, weakened}
@@ -32,15 +32,15 @@ use Rattle.agent_app.specs.declared.command.Form.{Form}
 use Rattle.agent_app.specs.Log.{log_as, log_for}
 use Rattle.agent_app.specs.LogText.{shown_by}
 use Rattle.agent_app.specs.Query.{reply_for, Answering, Asks, IsAnswerStatus, IsAskStatus, IsSettled}
-use Rattle.agent_app.specs.Run.{ends_a_run, is_whole, TellsRun}
+use Rattle.agent_app.specs.Run.{ends_a_run, is_whole}
 use Rattle.agent_app.specs.Running.{opening_status, DiskRose, TellRose}
 use Rattle.agent_app.proofs.CauseLemmas.{cause-as, stayed, stayed-before}
 use Rattle.agent_app.proofs.LeavesLemmas.{told-leaves, torn-leaves}
 use Rattle.agent_app.proofs.OpeningLemmas.{by-fault, disk-failed, failed_by, fault-is, opened-disk, opened-finds, unopened-finds, untold-yet}
 
 -- nothing was told of an output
-told-none : (s : Status) (output : List ℕ) (past : List Event) → is_whole s ≡ false → TellsRun s output past past
-told-none s output past part = record { sent = []; unsent = output; whole = refl; tells = sym (append-nil (told past)); all = λ all. absurd (true≢false (sym all ∙ part)) }
+told-none : (s : Status) (output : List ℕ) (past : List Event) → is_whole s ≡ false → TellsPrefix (is_whole s) output past past
+told-none s output past part = record { said = []; unsaid = output; whole = refl; tells = sym (append-nil (told past)); complete = λ all. absurd (true≢false (sym all ∙ part)) }
 
 abbrev none_before : Option Why
 none_before = None
@@ -66,7 +66,7 @@ module _ (honest : Type 0) (agent : AgentState) (answer : Settings → List Beat
   failed : (s : Status) (host' : Seen) → is_whole s ≡ false → IsAnswerStatus s → (s ≡ status.TellFault → ⊥) → (honest → host'.past ≡ host.past) → host'.tell_faults ≡ host.tell_faults
       → HasCause host.disk_faults host'.disk_faults (s ≡ status.DiskFault) → Answering honest agent answer s host host'
   failed s host' part which untold quiet tells cause = record {
-    answered = λ h set g is_of. subst (TellsRun s (answer set g) host.past) (sym (quiet h)) (told-none s (answer set g) host.past part);
+    answered = λ h set g is_of. subst (TellsPrefix (is_whole s) (answer set g) host.past) (sym (quiet h)) (told-none s (answer set g) host.past part);
     leaves = λ h. subst (Throughout (λ past. (file : File) → of file past ≡ of file host.past) host.past) (sym (quiet h)) (begins (λ file. refl));
     unspent = λ h is. ap told (quiet h);
     statuses = which;
@@ -84,14 +84,14 @@ module _ (honest : Type 0) (agent : AgentState) (answer : Settings → List Beat
   module _ (middle : Seen) (quiet : honest → middle.past ≡ host.past) (untold : middle.tell_faults ≡ host.tell_faults) (unstored : middle.disk_faults ≡ host.disk_faults)
       (reply : List ℕ) (is-answer : (set : Settings) (g : List Beat) → IsAgentOf host.past agent set g → reply ≡ answer set g) (host' : Seen) (disk : host'.disk_faults ≡ middle.disk_faults) where
     -- a prefix of it was told
-    prefix : (s : Status) (sent unsent : List ℕ) → reply ≡ sent ++ unsent → (is_whole s ≡ true → unsent ≡ []) → told host'.past ≡ told middle.past ++ sent → honest
-        → (set : Settings) (g : List Beat) → IsAgentOf host.past agent set g → TellsRun s (answer set g) host.past host'.past
-    prefix s sent unsent whole all tells h set g is_of = record {
-      sent = sent;
-      unsent = unsent;
+    prefix : (s : Status) (said unsaid : List ℕ) → reply ≡ said ++ unsaid → (is_whole s ≡ true → unsaid ≡ []) → told host'.past ≡ told middle.past ++ said → honest
+        → (set : Settings) (g : List Beat) → IsAgentOf host.past agent set g → TellsPrefix (is_whole s) (answer set g) host.past host'.past
+    prefix s said unsaid whole all tells h set g is_of = record {
+      said = said;
+      unsaid = unsaid;
       whole = sym (is-answer set g is_of) ∙ whole;
-      tells = tells ∙ ap (λ (p : List Event). told p ++ sent) (quiet h);
-      all = all;
+      tells = tells ∙ ap (λ (p : List Event). told p ++ said) (quiet h);
+      complete = all;
     }
 
     leaves-as : LeavesDisk honest middle host' → honest → Throughout (λ past. (file : File) → of file past ≡ of file host.past) host.past host'.past
@@ -140,7 +140,7 @@ module _ (honest : Type 0) (agent : AgentState) (answer : Settings → List Beat
         short : {A : Type 0} → is_whole status.TellFault ≡ true → A
         short all = absurd (true≢false (sym all))
 
-        by : honest → MayAdd (λ (n : ℕ). Told (take n reply)) middle.past host'.past → (set : Settings) (g : List Beat) → IsAgentOf host.past agent set g → TellsRun status.TellFault (answer set g) host.past host'.past
+        by : honest → MayAdd (λ (n : ℕ). Told (take n reply)) middle.past host'.past → (set : Settings) (g : List Beat) → IsAgentOf host.past agent set g → TellsPrefix (is_whole status.TellFault) (answer set g) host.past host'.past
         by h (inl same) = prefix status.TellFault [] reply refl short (ap told same ∙ sym (append-nil (told middle.past))) h
         by h (inr (n, added)) = prefix status.TellFault (take n reply) (drop n reply) (sym (take-append-drop n reply)) short (ap told added) h
 
@@ -256,7 +256,7 @@ module _ (honest : Type 0) (answer : Settings → List Beat → List ℕ) (host 
   asked = record {
     answered = λ h set g here.
         let tells = answering.answered h set g (opens.opened h set g here) in
-        record { sent = tells.sent; unsent = tells.unsent; whole = tells.whole; tells = tells.tells ∙ ap (λ (t : List ℕ). t ++ tells.sent) (silent-opening h); all = tells.all };
+        record { said = tells.said; unsaid = tells.unsaid; whole = tells.whole; tells = tells.tells ∙ ap (λ (t : List ℕ). t ++ tells.said) (silent-opening h); complete = tells.complete };
     complete = λ h set g here none_told none_disk. complete-by none_told none_disk answering.statuses;
     any_moment = λ h.
         joined (opens.any_moment h)
@@ -293,7 +293,7 @@ module _ (honest : Type 0) (answer : Settings → List Beat → List ℕ) (host 
   unopened-asked = record {
     answered = λ h set g here.
         let part : is_whole (opening_status why) ≡ false = by-fault honest host host' first (λ (f : AgentFault). is_whole (opening_status f) ≡ false) why (opens.stands h set g here) refl refl in
-        record { sent = []; unsent = answer set g; whole = refl; tells = (opens.only_here h).output ∙ sym (append-nil (told host.past)); all = λ all. absurd (true≢false (sym all ∙ part)) };
+        record { said = []; unsaid = answer set g; whole = refl; tells = (opens.only_here h).output ∙ sym (append-nil (told host.past)); complete = λ all. absurd (true≢false (sym all ∙ part)) };
     complete = λ h set g here none_told none_disk.
         by-fault honest host host' first (λ (f : AgentFault). why ≡ f → (opening_status f ≡ status.Ok) ⊎ (opening_status f ≡ status.Memory)) why (opens.stands h set g here)
         (λ is. absurd (none_disk (opens.cause.failed (ap (λ (f : AgentFault). Err f) is)))) (λ is. inr refl) refl;

@@ -258,7 +258,7 @@ module _ {H : Type 0} (honest : Type 0) (seen : H → Seen) (host : Seen) (agent
       stores-as set h0 start stores = record {
         crashes = stores.crashes;
         ends = λ all. stores.ends (ends_as.whole all);
-        output = record { sent = stores.output.sent; unsent = stores.output.unsent; whole = stores.output.whole; tells = stores.output.tells; all = λ all. stores.output.all (ends_as.whole all) };
+        output = record { said = stores.output.said; unsaid = stores.output.unsaid; whole = stores.output.whole; tells = stores.output.tells; complete = λ all. stores.output.complete (ends_as.whole all) };
         told_for = λ is. stores.told_for (ends_as.told is);
       }
 

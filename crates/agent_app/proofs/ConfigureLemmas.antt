@@ -135,7 +135,7 @@ module _ (set : Settings) (h0 : List Beat) (past : List Event) (here : EveryDisk
   idle-at s ended taken source tell disk untold same none cause = record {
     crashes = keeps-more set h0 h0 (history_with_health h0 ended taken) (told past) (extends-health h0 ended taken) past past (opening-crashes set h0 past past here refl (begins (λ disk images. images)));
     ends = λ all. subst (λ (g : List Beat). EveryDisk (StandsForHistory set g) past) (sym same) here;
-    output = record { sent = []; unsent = health_output set h0 ended taken; whole = refl; tells = sym (append-nil (told past)); all = λ all. by all none };
+    output = record { said = []; unsaid = health_output set h0 ended taken; whole = refl; tells = sym (append-nil (told past)); complete = λ all. by all none };
     told_for = λ is. absurd (untold is);
     unspent = λ is. refl;
     cause = cause;
@@ -327,7 +327,7 @@ module _ (honest : Type 0) (host : Seen) (agent : AgentState) (middle : Seen) (o
             joined (keeps-more set h0 h0 whole (told start) (extends-health h0 ended taken) start middle.past before)
             (subst (λ (t : List ℕ). Throughout (EveryCrash (Keeps set h0 whole t)) middle.past host'.past) silent at.crashes);
         ends = at.ends;
-        output = record { sent = at.output.sent; unsent = at.output.unsent; whole = at.output.whole; tells = at.output.tells ∙ ap (λ (t : List ℕ). t ++ at.output.sent) silent; all = at.output.all };
+        output = record { said = at.output.said; unsaid = at.output.unsaid; whole = at.output.whole; tells = at.output.tells ∙ ap (λ (t : List ℕ). t ++ at.output.said) silent; complete = at.output.complete };
         told_for = at.told_for;
         unspent = λ is. at.unspent is ∙ silent;
         cause = caused at.cause;
@@ -394,7 +394,7 @@ module _ (honest : Type 0) (host host' : Seen) (first : honest → IsDisk host.p
         at = record {
           crashes = opening-crashes set h0 host.past host'.past stands (opens.only_here h).output (opens.any_moment h);
           ends = λ all. absurd (true≢false (sym all ∙ part));
-          output = record { sent = []; unsent = health_output set h0 false []; whole = refl; tells = (opens.only_here h).output ∙ sym (append-nil (told host.past)); all = λ all. absurd (true≢false (sym all ∙ part)) };
+          output = record { said = []; unsaid = health_output set h0 false []; whole = refl; tells = (opens.only_here h).output ∙ sym (append-nil (told host.past)); complete = λ all. absurd (true≢false (sym all ∙ part)) };
           told_for = λ is. absurd (untold-yet honest host host' first why is);
           unspent = λ is. (opens.only_here h).output;
           cause =

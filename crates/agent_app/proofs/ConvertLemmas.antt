@@ -2,7 +2,7 @@
 use Rattle.std.proofs.Common.{◌≡◌, ℕ, ◌-◌, ◌<◌, ◌≤◌, Bool, true, false, nat_lt, List, [], ◌∷◌, ◌++◌, length, take, Option, Some, None, IfSome, ◌⊎◌, inl, inr, refl, ap, sym, subst, ◌∙◌, append_assoc, append-nil, string_bytes, arith, if◌then◌else◌}
 use Rattle.std.proofs.lemmas.List.Elements.{All-pop}
 use Rattle.host_model.specs.Cause.{HasCause, Rose}
-use Rattle.host_model.specs.Past.{Event, told}
+use Rattle.host_model.specs.Past.{Event, told, TellsPrefix}
 use Rattle.host_model.specs.Source.{Takes as TakesBytes}
 use Rattle.host_model.specs.declared.status.Status.{Status}
 use Rattle.host_model.specs.declared.status.Status.TheVariants.{Ok as Done, Refused, Limit, ReadFault, TellFault, InputLimit, Memory}
@@ -16,7 +16,7 @@ use Rattle.plugin_text.specs.declared.refusal.Refusal.{Refusal}
 use Rattle.plugin_text.specs.Refusal.{refusal_number}
 use Rattle.agent_app.specs.declared.converting.Converting.{Converting}
 use Rattle.host_model.specs.Seen.{Seen}
-use Rattle.agent_app.specs.Convert.{all_told, converted, ending_status, is_limit, output_of, point_rules, status_of, status_within, tells_all, Converts, EndsAsText, HasStatusCause, IsUnasked, LeavesDisk, TellsOutput}
+use Rattle.agent_app.specs.Convert.{all_told, converted, ending_status, is_limit, output_of, point_rules, status_of, status_within, tells_all, Converts, EndsAsText, HasStatusCause, IsUnasked, LeavesDisk}
 use Rattle.agent_app.specs.Converting.{converting_acts, Ends, EndsAs, EndsIn, HasConverted, HasRun, IsFinal, TellsLast}
 use Rattle.agent_app.specs.Reading.{Ending, Ends as IsOver, GoesOn, RefusedAt, Reading, reading}
 use Rattle.agent_app.proofs.CauseLemmas.{apart, cause-as, ending-inside, is_outside, stayed, stayed-before, stayed-behind}
@@ -70,25 +70,25 @@ later-cause _ ended ending text source_rose tell_rose tell_rose' tell cause = ab
 
 module _ (result status : Status) (honest : Type 0) (waiting : List ℕ) (left left' : Option (List ℕ)) (past past' past'' : List Event) (sf sf' tf tf' tf'' : ℕ)
     (run : HasRun status honest waiting left left' past past' sf sf' tf tf') (last : TellsLast result status honest waiting past' past'' tf' tf'') where
-  told-output : (all : Bool) → tells_all status ≡ all → honest → TellsOutput result (output_of run.ended run.taken) past past''
+  told-output : (all : Bool) → tells_all status ≡ all → honest → TellsPrefix (tells_all result) (output_of run.ended run.taken) past past''
   told-output true all is_honest =
       let before = run.leaves.tells is_honest in
       let after = last.tells all is_honest in
       record {
-        sent = before.sent ++ after.sent;
-        unsent = after.unsent;
-        whole = before.whole ∙ ap (λ (bytes : List ℕ). before.sent ++ bytes) (before.all all ∙ after.whole) ∙ sym (append_assoc before.sent after.sent after.unsent);
-        tells = after.tells ∙ ap (λ (bytes : List ℕ). bytes ++ after.sent) before.tells ∙ append_assoc (told past) before.sent after.sent;
-        all = after.all;
+        said = before.sent ++ after.said;
+        unsaid = after.unsaid;
+        whole = before.whole ∙ ap (λ (bytes : List ℕ). before.sent ++ bytes) (before.all all ∙ after.whole) ∙ sym (append_assoc before.sent after.said after.unsaid);
+        tells = after.tells ∙ ap (λ (bytes : List ℕ). bytes ++ after.said) before.tells ∙ append_assoc (told past) before.sent after.said;
+        complete = after.complete;
       }
   told-output false all is_honest =
       let before = run.leaves.tells is_honest in
       record {
-        sent = before.sent;
-        unsent = before.unsent;
+        said = before.sent;
+        unsaid = before.unsent;
         whole = before.whole;
         tells = ap told (last.failed all).1.0 ∙ before.tells;
-        all = λ whole. let same = (last.failed all).0 in cc;
+        complete = λ whole. let same = (last.failed all).0 in cc;
       }
 
   told-silent : (all : Bool) → tells_all status ≡ all → output_of run.ended run.taken ≡ [] → IsUnasked past past'' tf tf''

@@ -1,8 +1,8 @@
 -- A text whose points are told, line by line.
-use Rattle.std.proofs.Common.{◌≡◌, ℕ, ◌+◌, ◌≤◌, Bool, true, false, List, [], ◌∷◌, ◌++◌, length, take, drop, Ok, Err, inl, inr, refl, sym, ap, subst, ◌∙◌, append_assoc, append-nil, string_bytes, arith}
+use Rattle.std.proofs.Common.{◌≡◌, ℕ, ◌+◌, ◌≤◌, Bool, true, false, List, [], ◌∷◌, ◌++◌, length, take, drop, Ok, Err, inl, inr, refl, sym, ap, subst, ◌∙◌, append_assoc, append-nil, string_bytes, arith, true≢false}
 use Rattle.std.proofs.lemmas.List.{take-append-drop}
 use Rattle.host_model.specs.Cause.{Rose}
-use Rattle.host_model.specs.Past.{Event, Told, told, MayAdd}
+use Rattle.host_model.specs.Past.{Event, Told, told, MayAdd, TellsPrefix}
 use Rattle.host_model.specs.declared.status.Status.{Status}
 use Rattle.host_model.specs.declared.status.Status.TheVariants.{TellFault, Memory}
 use Rattle.history.specs.declared.line.Line.{Line}
@@ -18,15 +18,15 @@ use Rattle.point_lines.specs.Reader.{IsReaderOf, ReadsLine}
 use Rattle.point_lines.specs.Told.{told_at, told_at_end}
 use Rattle.agent_app.specs.declared.converting.Converting.{Converting}
 use Rattle.agent_app.specs.Convert.{all_told, ending_line, ending_status, point_rules, IsUnasked}
-use Rattle.agent_app.specs.Converting.{AddsEnding, EndsIn, HasConverted, IsFinal, TellsPrefix}
+use Rattle.agent_app.specs.Converting.{AddsEnding, EndsIn, HasConverted, IsFinal}
 use Rattle.agent_app.specs.Reading.{Ending, Ends, RefusedAt, HasRead, Reading, reading, refused_at}
 use Rattle.agent_app.proofs.CauseLemmas.{apart, ending-inside, is_outside, stayed}
 use Rattle.agent_app.proofs.HasReadLemmas.{read-next, read-start}
 
 -- a call of `tell` that failed told a prefix
-pub prefix_told : (bytes : List ℕ) (old new : List Event) → MayAdd (λ n. Told (take n bytes)) old new → TellsPrefix bytes old new
-prefix_told bytes old new (inl same) = record { sent = []; unsent = bytes; whole = refl; tells = rw same (sym (append-nil (told old))) }
-prefix_told bytes old new (inr (n, added)) = record { sent = take n bytes; unsent = drop n bytes; whole = sym (take-append-drop n bytes); tells = rw added refl }
+pub prefix_told : (bytes : List ℕ) (old new : List Event) → MayAdd (λ n. Told (take n bytes)) old new → TellsPrefix false bytes old new
+prefix_told bytes old new (inl same) = record { said = []; unsaid = bytes; whole = refl; tells = rw same (sym (append-nil (told old))); complete = λ all. absurd (true≢false (sym all)) }
+prefix_told bytes old new (inr (n, added)) = record { said = take n bytes; unsaid = drop n bytes; whole = sym (take-append-drop n bytes); tells = rw added refl; complete = λ all. absurd (true≢false (sym all)) }
 
 -- two lists that are empty together are each empty
 pub both-none : (first second : List ℕ) → first ++ second ≡ [] → (first ≡ []) × (second ≡ [])
@@ -176,7 +176,7 @@ module _ (old : Converting) (honest : Type 0) (prefix : List (List ℕ)) (past p
   }
 
   -- what waits was not told, or not all of it
-  pub pauses-fault : (past'' : List Event) (tf'' : ℕ) (waiting : List ℕ) → (honest → TellsPrefix (string_bytes old.out) past' past'') → (string_bytes old.out ≡ [] → IsUnasked past' past'' tf' tf'') → tf' ≤ tf'' → Rose tf' tf''
+  pub pauses-fault : (past'' : List Event) (tf'' : ℕ) (waiting : List ℕ) → (honest → TellsPrefix false (string_bytes old.out) past' past'') → (string_bytes old.out ≡ [] → IsUnasked past' past'' tf' tf'') → tf' ≤ tf'' → Rose tf' tf''
       → (ended : Bool) (next : List ℕ) (more : List (List ℕ)) → EndsIn TellFault honest waiting (reading point_rules ended [] (prefix ++ next ∷ more)) past past'' tf tf''
   pauses-fault past'' tf'' waiting torn silent later rose ended next more =
       let ahead = all_told (reading point_rules ended before.said (next ∷ more)) in
@@ -185,11 +185,11 @@ module _ (old : Converting) (honest : Type 0) (prefix : List (List ℕ)) (past p
       record {
         leaves = record {
           tells = λ is_honest. let prefix_is = torn is_honest in record {
-            sent = before.sent ++ prefix_is.sent;
-            unsent = prefix_is.unsent ++ ahead;
-            whole = whole ∙ ap (λ (bytes : List ℕ). before.sent ++ (bytes ++ ahead)) prefix_is.whole ∙ ap (λ (bytes : List ℕ). before.sent ++ bytes) (append_assoc prefix_is.sent prefix_is.unsent ahead)
-                ∙ sym (append_assoc before.sent prefix_is.sent (prefix_is.unsent ++ ahead));
-            tells = prefix_is.tells ∙ ap (λ (bytes : List ℕ). bytes ++ prefix_is.sent) (before.told.tells is_honest) ∙ append_assoc (told past) before.sent prefix_is.sent;
+            sent = before.sent ++ prefix_is.said;
+            unsent = prefix_is.unsaid ++ ahead;
+            whole = whole ∙ ap (λ (bytes : List ℕ). before.sent ++ (bytes ++ ahead)) prefix_is.whole ∙ ap (λ (bytes : List ℕ). before.sent ++ bytes) (append_assoc prefix_is.said prefix_is.unsaid ahead)
+                ∙ sym (append_assoc before.sent prefix_is.said (prefix_is.unsaid ++ ahead));
+            tells = prefix_is.tells ∙ ap (λ (bytes : List ℕ). bytes ++ prefix_is.said) (before.told.tells is_honest) ∙ append_assoc (told past) before.sent prefix_is.said;
             all = λ all. cc;
           };
           silent = λ nothing.

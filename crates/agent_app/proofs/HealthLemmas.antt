@@ -215,12 +215,12 @@ module _ (set : Settings) (h0 : List Beat) (text : List ℕ) (start : List Event
   abbrev output : List ℕ
   output = told_by set h0 text (health_refusal text)
 
-  short-end : (status : Status) (new : List Event) (sent unsent : List ℕ) → is_whole status ≡ false → Kept new → output ≡ sent ++ unsent → told new ≡ told start ++ sent
+  short-end : (status : Status) (new : List Event) (said unsaid : List ℕ) → is_whole status ≡ false → Kept new → output ≡ said ++ unsaid → told new ≡ told start ++ said
       → (status ≡ TellFault → output ≡ [] → ⊥) → ((status ≡ DiskFault) ⊎ (status ≡ Memory) → told new ≡ told start) → HasHealthCause status true text ⊥ tell_rose disk_rose → Ends status new
-  short-end status new sent unsent short kept whole_is tells told_for unspent cause = record {
+  short-end status new said unsaid short kept whole_is tells told_for unspent cause = record {
     crashes = kept;
     ends = λ all. absurd (true≢false (sym all ∙ short));
-    output = record { sent = sent; unsent = unsent; whole = whole_is; tells = tells; all = λ all. absurd (true≢false (sym all ∙ short)) };
+    output = record { said = said; unsaid = unsaid; whole = whole_is; tells = tells; complete = λ all. absurd (true≢false (sym all ∙ short)) };
     told_for = told_for;
     unspent = unspent;
     cause = cause;
@@ -241,7 +241,7 @@ module _ (set : Settings) (h0 : List Beat) (text : List ℕ) (start : List Event
     whole-end new is cause = record {
       crashes = joined kept (told-after set h0 stored (history_by h0 text (health_refusal text)) since within start past silent here next acked new is);
       ends = λ all. subst (λ (g : List Beat). EveryDisk (StandsForHistory set g) new) (sym stored-is) (subst (λ (p : List Event). EveryDisk (StandsForHistory set stored) p) (sym is) here);
-      output = record { sent = next; unsent = []; whole = next-is ∙ sym (append-nil next); tells = ap told is ∙ ap (λ (t : List ℕ). t ++ next) silent; all = λ all. refl };
+      output = record { said = next; unsaid = []; whole = next-is ∙ sym (append-nil next); tells = ap told is ∙ ap (λ (t : List ℕ). t ++ next) silent; complete = λ all. refl };
       told_for = λ is. absurd (apart Done TellFault refl refl is);
       unspent = λ is. absurd (done-apart is);
       cause = cause;
@@ -307,7 +307,7 @@ module _ (set : Settings) (h0 : List Beat) (ended : Bool) (taken : List ℕ) (st
       subst (λ (t : Status). StopsAt t set h0 ended taken start new source tell disk) (sym status-is) (record {
         crashes = told-after set h0 h0 left no_more within-left start start refl here (fault_text why) (acked-fault (length h0) why) new (done h);
         ends = λ all. subst (λ (p : List Event). EveryDisk (StandsForHistory set left) p) (sym (done h)) stays-left;
-        output = record { sent = fault_text why; unsent = []; whole = output-why ∙ sym (append-nil (fault_text why)); tells = ap told (done h); all = λ all. refl };
+        output = record { said = fault_text why; unsaid = []; whole = output-why ∙ sym (append-nil (fault_text why)); tells = ap told (done h); complete = λ all. refl };
         told_for = λ untold. absurd (apart (fault_status why) TellFault (fault-inside why) refl untold);
         unspent = silent-why;
         cause = fault-cause why ended taken source tell disk over is;
@@ -321,11 +321,11 @@ module _ (set : Settings) (h0 : List Beat) (ended : Bool) (taken : List ℕ) (st
       after : Throughout (EveryCrash (Keeps set h0 left (told start))) start new
       after = torn-after set h0 h0 left no_more within-left start start refl here (fault_text why) (acked-fault (length h0) why) new (torn h)
 
-      short : (sent unsent : List ℕ) → fault_text why ≡ sent ++ unsent → told new ≡ told start ++ sent → StopsAt TellFault set h0 ended taken start new source tell disk
-      short sent unsent whole_is tells = record {
+      short : (said unsaid : List ℕ) → fault_text why ≡ said ++ unsaid → told new ≡ told start ++ said → StopsAt TellFault set h0 ended taken start new source tell disk
+      short said unsaid whole_is tells = record {
         crashes = after;
         ends = λ all. absurd (true≢false (sym all));
-        output = record { sent = sent; unsent = unsent; whole = output-why ∙ whole_is; tells = tells; all = λ all. absurd (true≢false (sym all)) };
+        output = record { said = said; unsaid = unsaid; whole = output-why ∙ whole_is; tells = tells; complete = λ all. absurd (true≢false (sym all)) };
         told_for = λ untold none. some status-is (sym output-why ∙ none);
         unspent = λ e. absurd (tell-apart e);
         cause = rose;
@@ -339,7 +339,7 @@ module _ (set : Settings) (h0 : List Beat) (ended : Bool) (taken : List ℕ) (st
       (subst (λ (p : List Event). StopsAt Memory set h0 ended taken start p source tell disk) (sym unmoved) (record {
         crashes = begins (here-crash set h0 h0 left no_more within-left start start refl here (fault_text why) (acked-fault (length h0) why));
         ends = λ all. absurd (true≢false (sym all));
-        output = record { sent = []; unsent = health_output set h0 ended taken; whole = refl; tells = sym (append-nil (told start)); all = λ all. absurd (true≢false (sym all)) };
+        output = record { said = []; unsaid = health_output set h0 ended taken; whole = refl; tells = sym (append-nil (told start)); complete = λ all. absurd (true≢false (sym all)) };
         told_for = λ untold. absurd (apart Memory TellFault refl refl untold);
         unspent = λ e. refl;
         cause = tt;

@@ -96,7 +96,7 @@ module _ (honest : Type 0) (host host' : Seen) (first : honest → IsDisk host.p
       record {
         crashes = opening-crashes set h0 host.past host'.past stands (opens.only_here h).output (opens.any_moment h);
         ends = λ all. absurd (true≢false (sym all ∙ short));
-        output = record { sent = []; unsent = run_output every set h0 false []; whole = refl; tells = (opens.only_here h).output ∙ sym (append-nil (told host.past)); all = λ all. absurd (true≢false (sym all ∙ short)) };
+        output = record { said = []; unsaid = run_output every set h0 false []; whole = refl; tells = (opens.only_here h).output ∙ sym (append-nil (told host.past)); complete = λ all. absurd (true≢false (sym all ∙ short)) };
         told_for = λ is. absurd (untold-yet why is);
       }
 

@@ -382,11 +382,11 @@ module _ (honest : Type 0) (host : Seen) (agent : AgentState) (middle : Seen) (o
             crashes = crashes;
             ends = λ all. copies.ends (whole-keeps result all);
             output = record {
-              sent = copies.output.said;
-              unsent = copies.output.unsaid;
+              said = copies.output.said;
+              unsaid = copies.output.unsaid;
               whole = ap (λ (t : List ℕ). made ++ t) (quiet-line result other) ∙ append-nil made ∙ copies.output.whole;
               tells = tells;
-              all = λ all. copies.output.complete (whole-keeps result all);
+              complete = λ all. copies.output.complete (whole-keeps result all);
             };
             told_for = told-for other;
             copy = stays-copy late.past crashes;
@@ -451,8 +451,8 @@ module _ (honest : Type 0) (host : Seen) (agent : AgentState) (middle : Seen) (o
 
       -- of a session that ended so
       ended-so : (s : Status) (new : List Event) → (s ≡ refusal_status 0 (refusal.Block why)) ⊎ (s ≡ status.TellFault) ⊎ (s ≡ status.Memory) → Throughout Kept start new → (is_whole s ≡ true → EveryDisk (StandsForHistory set whole) new)
-          → Heard new → LeavesFiles late.past new → (s ≡ status.DiskFault → ⊥) → (sent unsent : List ℕ) → made ++ last ≡ sent ++ unsent → told new ≡ told start ++ sent → (is_whole s ≡ true → unsent ≡ []) → EndsSo s set h0 link link' start middle.past new
-      ended-so s new which held all heard leaves stored sent unsent output says complete = record {
+          → Heard new → LeavesFiles late.past new → (s ≡ status.DiskFault → ⊥) → (said unsaid : List ℕ) → made ++ last ≡ said ++ unsaid → told new ≡ told start ++ said → (is_whole s ≡ true → unsaid ≡ []) → EndsSo s set h0 link link' start middle.past new
+      ended-so s new which held all heard leaves stored said unsaid output says complete = record {
         receives = record {
           result = result;
           ends_as = subst (λ (r : SessionResult). EndsAs r s) (sym is) which;
@@ -461,7 +461,7 @@ module _ (honest : Type 0) (host : Seen) (agent : AgentState) (middle : Seen) (o
           in_turn = heard.1;
           crashes = held;
           ends = all;
-          output = record { sent = sent; unsent = unsent; whole = output-is ∙ output; tells = says; all = complete };
+          output = record { said = said; unsaid = unsaid; whole = output-is ∙ output; tells = says; complete = complete };
           told_for = λ _ none. last-some none;
           copy = stays-copy new held;
         };
@@ -671,11 +671,11 @@ module _ (honest : Type 0) (host host' : Seen) (first : honest → IsDisk host.p
     crashes = opening-crashes set h0 host.past host'.past stands (opens.only_here h).output (opens.any_moment h);
     ends = λ all. absurd (true≢false (sym all ∙ short));
     output = record {
-      sent = [];
-      unsent = last_line r;
+      said = [];
+      unsaid = last_line r;
       whole = refl;
       tells = (opens.only_here h).output ∙ sym (append-nil (told host.past));
-      all = λ all. absurd (true≢false (sym all ∙ short));
+      complete = λ all. absurd (true≢false (sym all ∙ short));
     };
     told_for = λ is. absurd (untold is);
     copy = λ floors child rises copy truth. crashes-copy set floors child rises h0 [] host.past host'.past tt truth copy (opening-crashes set h0 host.past host'.past stands (opens.only_here h).output (opens.any_moment h));

@@ -61,13 +61,13 @@ module _ (past : List Event) (running : Running) (every : ℕ) (set : Settings) 
     abbrev Kept : List Event → Type 0
     Kept new = Throughout (EveryCrash (Keeps set h0 (history_with_text every h0 text) (told start))) start new
 
-    short-stop : (status : Status) (new : List Event) (sent unsent : List ℕ) → is_whole status ≡ false → Kept new → run_output every set h0 ended text ≡ sent ++ unsent → told new ≡ told start ++ sent
-        → (status ≡ TellFault → run_output every set h0 ended text ≡ [] → ⊥) → FailsAtBeat status every set h0 ended text sent → HasRunCause status ended (run_reading every set h0 ended text).ending text source_rose tell_rose disk_rose → Stops status new
-    short-stop status new sent unsent short kept whole tells told_for stored_for cause = record {
+    short-stop : (status : Status) (new : List Event) (said unsaid : List ℕ) → is_whole status ≡ false → Kept new → run_output every set h0 ended text ≡ said ++ unsaid → told new ≡ told start ++ said
+        → (status ≡ TellFault → run_output every set h0 ended text ≡ [] → ⊥) → FailsAtBeat status every set h0 ended text said → HasRunCause status ended (run_reading every set h0 ended text).ending text source_rose tell_rose disk_rose → Stops status new
+    short-stop status new said unsaid short kept whole tells told_for stored_for cause = record {
       stores = record {
         crashes = kept;
         ends = λ all. absurd (true≢false (sym all ∙ short));
-        output = record { sent = sent; unsent = unsent; whole = whole; tells = tells; all = λ all. absurd (true≢false (sym all ∙ short)) };
+        output = record { said = said; unsaid = unsaid; whole = whole; tells = tells; complete = λ all. absurd (true≢false (sym all ∙ short)) };
         told_for = told_for;
       };
       stored_for = stored_for;
@@ -80,7 +80,7 @@ module _ (past : List Event) (running : Running) (every : ℕ) (set : Settings) 
       stores = record {
         crashes = subst (λ (h : List Beat). Throughout (EveryCrash (Keeps set h0 h (told start))) start past) (sym history) at.crashes;
         ends = λ _. subst (λ (h : List Beat). EveryDisk (StandsForHistory set h) past) (sym history) (stands-all past running.agent set now at.agent);
-        output = record { sent = made; unsent = []; whole = output ∙ sym (append-nil made); tells = at.tells; all = λ _. refl };
+        output = record { said = made; unsaid = []; whole = output ∙ sym (append-nil made); tells = at.tells; complete = λ _. refl };
         told_for = λ is. absurd (untold is);
       };
       stored_for = λ is. absurd (stored is);
@@ -144,11 +144,11 @@ module _ (past : List Event) (running : Running) (every : ℕ) (set : Settings) 
                 (told-crashes past running every set h0 start read made at line (acked-refusal (length now) number why) new (done h));
             ends = λ _. subst (λ (w : List Beat). EveryDisk (StandsForHistory set w) new) (sym history) (subst (λ (p : List Event). EveryDisk (StandsForHistory set now) p) (sym (done h)) stands);
             output = record {
-              sent = made ++ line;
-              unsent = [];
+              said = made ++ line;
+              unsaid = [];
               whole = ap all_told whole ∙ sym (append-nil (made ++ line));
               tells = ap told (done h) ∙ ap (λ (t : List ℕ). t ++ line) at.tells ∙ append_assoc (told start) made line;
-              all = λ _. refl;
+              complete = λ _. refl;
             };
             told_for = λ untold none. apart (refusal_status number why) TellFault (refusal-inside number why) refl untold;
           };

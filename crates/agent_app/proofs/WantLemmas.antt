@@ -127,7 +127,7 @@ want-converts honest left past source_faults tell_faults = record {
   takes = Takes-none left;
   within = omega arith;
   at_end = λ e. absurd (true≢false (sym e));
-  output = λ h. record { sent = []; unsent = output_of false []; whole = refl; tells = sym (append-nil _); all = λ all. absurd (true≢false (sym all)) };
+  output = λ h. record { said = []; unsaid = output_of false []; whole = refl; tells = sym (append-nil _); complete = λ all. absurd (true≢false (sym all)) };
   silent = λ none. (refl, refl);
   cause = tt;
   read = λ e. absurd (no-read e);

@@ -149,7 +149,7 @@ pub record CollectsOn (status : Status) (asked : Collector) (set : Settings) (h0
   -- a text that closes no beat writes nothing
   pub quiet : history_with_text asked.every h0 collects.taken ≡ h0 → LeavesFiles read new
   -- the disk fails at an accepted MOMENT alone
-  pub stored_for : FailsAtBeat status asked.every set h0 collects.ended collects.taken collects.stores.output.sent
+  pub stored_for : FailsAtBeat status asked.every set h0 collects.ended collects.taken collects.stores.output.said
 
 -- the statuses of a collector's run, but those of one that found no database that can be opened
 abbrev pub ends_a_collect : Status → Bool

@@ -1,7 +1,7 @@
 use Rattle.std.specs.Prelude.{◌≡◌, ℕ, ◌<◌, ◌≤◌, Bool, true, false, nat_lt, List, [], ◌++◌, length, take, ◌⊎◌, Option, IfSome, codes, if◌then◌else◌}
 use Rattle.std.specs.Fmt.{decimal}
 use Rattle.host_model.specs.Cause.{HasCause, Rose}
-use Rattle.host_model.specs.Past.{Event, told}
+use Rattle.host_model.specs.Past.{Event, TellsPrefix}
 use Rattle.host_model.specs.Source.{Takes}
 use Rattle.host_model.specs.declared.status.Status.{Status}
 use Rattle.host_model.specs.declared.status.Status.TheVariants.{Ok as Done, Refused, Limit, ReadFault, TellFault, InputLimit, Memory}
@@ -70,14 +70,6 @@ tells_all TellFault = false
 tells_all Memory = false
 tells_all _ = true
 
--- what was told since is the prefix of the output, and all of it where the status says so
-pub record TellsOutput (status : Status) (output : List ℕ) (old new : List Event) : Type 0 where
-  pub sent : List ℕ
-  pub unsent : List ℕ
-  pub whole : output ≡ sent ++ unsent
-  pub tells : told new ≡ told old ++ sent
-  pub all : tells_all status ≡ true → unsent ≡ []
-
 -- the status of a run whose text is refused so
 abbrev pub refusal_status : ℕ → Refusal → Status
 refusal_status line why = if is_limit why then Limit line (refusal_number why) else Refused line (refusal_number why)
@@ -110,7 +102,7 @@ pub record Converts (status : Status) (honest : Type 0) (left left' : Option (Li
   pub takes : Takes left taken left'
   pub within : length taken ≤ input_limit
   pub at_end : ended ≡ true → (length taken < input_limit) × IfSome left' (λ bytes. bytes ≡ [])
-  pub output : honest → TellsOutput status (output_of ended taken) past past'
+  pub output : honest → TellsPrefix (tells_all status) (output_of ended taken) past past'
   -- where nothing is told of the bytes that were taken, the host was not asked
   pub silent : output_of ended taken ≡ [] → IsUnasked past past' tell_faults tell_faults'
   pub cause : HasStatusCause status ended (converted ended taken).ending taken (Rose source_faults source_faults') (Rose tell_faults tell_faults')

@@ -1,7 +1,7 @@
 -- How a text whose points are told goes from line to line.
 use Rattle.std.specs.Prelude.{◌≡◌, ℕ, ◌+◌, ◌<◌, ◌≤◌, Bool, true, false, List, [], ◌∷◌, ◌++◌, length, ◌⊎◌, Option, Some, IfSome, string_bytes, Result, MatchResult, OnOk}
 use Rattle.host_model.specs.Cause.{HasCause, Rose}
-use Rattle.host_model.specs.Past.{Event, told}
+use Rattle.host_model.specs.Past.{Event, told, TellsPrefix}
 use Rattle.host_model.specs.Seen.{Seen}
 use Rattle.host_model.specs.Source.{Takes as TakesBytes}
 use Rattle.host_model.specs.declared.status.Status.{Status}
@@ -13,15 +13,8 @@ use Rattle.point_lines.specs.Reader.{IsReaderOf}
 use Rattle.line_stream.specs.Chain.{Acts}
 use Rattle.line_stream.specs.Run.{input_limit}
 use Rattle.agent_app.specs.declared.converting.Converting.{Converting}
-use Rattle.agent_app.specs.Convert.{all_told, converted, ending_status, output_of, point_rules, status_of, tells_all, HasStatusCause, IsUnasked, LeavesDisk, TellsOutput}
+use Rattle.agent_app.specs.Convert.{all_told, converted, ending_status, output_of, point_rules, status_of, tells_all, HasStatusCause, IsUnasked, LeavesDisk}
 use Rattle.agent_app.specs.Reading.{Ending, GoesOn, Ends as IsOver, RefusedAt, HasRead, Reading, reading}
-
--- a prefix of the bytes was told
-pub record TellsPrefix (bytes : List ℕ) (old new : List Event) : Type 0 where
-  pub sent : List ℕ
-  pub unsent : List ℕ
-  pub whole : bytes ≡ sent ++ unsent
-  pub tells : told new ≡ told old ++ sent
 
 -- ---- lines that are taken
 
@@ -138,7 +131,7 @@ pub record HasRun (status : Status) (honest : Type 0) (waiting : List ℕ) (left
 
 -- what waits was told as the last of a run that ends with this status, or the output failed
 pub record TellsLast (result status : Status) (honest : Type 0) (waiting : List ℕ) (past past' : List Event) (tell_faults tell_faults' : ℕ) : Type 0 where
-  pub tells : tells_all status ≡ true → honest → TellsOutput result waiting past past'
+  pub tells : tells_all status ≡ true → honest → TellsPrefix (tells_all result) waiting past past'
   pub failed : tells_all status ≡ false → (result ≡ status) × IsUnasked past past' tell_faults tell_faults'
   pub cause : (result ≡ status) ⊎ ((result ≡ TellFault) × Rose tell_faults tell_faults')
   -- where nothing waits nothing is done

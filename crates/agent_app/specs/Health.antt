@@ -6,7 +6,7 @@ use Rattle.host_model.specs.declared.status.Status.TheVariants.{Ok as Done, Refu
 use Rattle.host_model.specs.Cause.{HasCause, Rose}
 use Rattle.host_model.specs.Disks.{EveryDisk, reads_as}
 use Rattle.host_model.specs.Moments.{Throughout, EveryCrash}
-use Rattle.host_model.specs.Past.{Event, Told, told}
+use Rattle.host_model.specs.Past.{Event, Told, told, TellsPrefix}
 use Rattle.host_model.specs.Seen.{Seen}
 use Rattle.host_model.specs.Source.{Takes}
 use Rattle.health_config.specs.declared.fault.ConfigFault.{ConfigFault}
@@ -24,7 +24,7 @@ use Rattle.agent_core.specs.Notes.{NotesGo}
 use Rattle.agent_core.specs.Replies.{reply_text}
 use Rattle.link_session.specs.Keeps.{Keeps, LeavesFiles}
 use Rattle.agent_app.specs.Bound.{AgentGrows, GrowsBy}
-use Rattle.agent_app.specs.Run.{finds_none, is_whole, Finds, IsAsFound, LeavesOthers, OnceRead, TellsRun}
+use Rattle.agent_app.specs.Run.{finds_none, is_whole, Finds, IsAsFound, LeavesOthers, OnceRead}
 use Rattle.agent_app.specs.Running.{Counts, DiskRose, IsCutShort, IsTakers, TellRose}
 
 -- ---- refusals
@@ -101,7 +101,7 @@ pub record StopsAt (status : Status) (set : Settings) (h0 : List Beat) (ended : 
   pub crashes : Throughout (EveryCrash (Keeps set h0 (history_with_health h0 ended taken) (told old))) old new
   -- at the end the one with the configuration, unless the output, the disk or memory failed
   pub ends : is_whole status ≡ true → EveryDisk (StandsForHistory set (history_with_health h0 ended taken)) new
-  pub output : TellsRun status (health_output set h0 ended taken) old new
+  pub output : TellsPrefix (is_whole status) (health_output set h0 ended taken) old new
   -- no failure of the output ends it where nothing is to be told
   pub told_for : status ≡ TellFault → health_output set h0 ended taken ≡ [] → ⊥
   -- the disk fails, and memory runs out, before anything is told

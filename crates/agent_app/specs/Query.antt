@@ -7,7 +7,7 @@ use Rattle.host_model.specs.declared.status.Status.{Status}
 use Rattle.host_model.specs.declared.status.Status.TheVariants.{Ok as Done, TellFault, DiskFault, NotADatabase, Damaged, Memory}
 use Rattle.host_model.specs.Disks.{EveryDisk, reads_as}
 use Rattle.host_model.specs.Moments.{EveryCrash, Throughout}
-use Rattle.host_model.specs.Past.{told, IsDisk}
+use Rattle.host_model.specs.Past.{told, IsDisk, TellsPrefix}
 use Rattle.host_model.specs.Seen.{Seen}
 use Rattle.history.specs.History.{Beat}
 use Rattle.tier_settings.specs.declared.settings.Settings.{Settings}
@@ -16,7 +16,7 @@ use Rattle.agent_core.specs.Answers.{reply_of}
 use Rattle.agent_core.specs.Stands.{StandsForHistory}
 use Rattle.agent_core.specs.Notes.{NotesGo}
 use Rattle.link_session.specs.Keeps.{LeavesFiles}
-use Rattle.agent_app.specs.Run.{Finds, LeavesOthers, TellsRun}
+use Rattle.agent_app.specs.Run.{is_whole, Finds, LeavesOthers}
 
 -- words with a blank between two
 abbrev pub joined : List (List ℕ) → List ℕ
@@ -38,7 +38,7 @@ IsAnswerStatus status = (status ≡ Done) ⊎ (status ≡ TellFault) ⊎ (status
 
 -- an agent was asked for this of its history, which ended with this status and left the host so
 pub record Answering (honest : Type 0) (agent : AgentState) (answer : Settings → List Beat → List ℕ) (status : Status) (host host' : Seen) : Type 0 where
-  pub answered : honest → (set : Settings) (h : List Beat) → IsAgentOf host.past agent set h → TellsRun status (answer set h) host.past host'.past
+  pub answered : honest → (set : Settings) (h : List Beat) → IsAgentOf host.past agent set h → TellsPrefix (is_whole status) (answer set h) host.past host'.past
   pub leaves : honest → LeavesFiles host.past host'.past
   -- a failure of the disk and out of memory come before anything is told
   pub unspent : honest → (status ≡ DiskFault) ⊎ (status ≡ Memory) → told host'.past ≡ told host.past
@@ -60,7 +60,7 @@ IsAskStatus status = IsAnswerStatus status
 pub record Asks (honest : Type 0) (answer : Settings → List Beat → List ℕ) (status : Status) (host host' : Seen) : Type 0 where
   -- what was told is a prefix of the answer of the history that the files read as, and all of it unless the output, the
   -- disk or memory failed
-  pub answered : honest → (set : Settings) (h : List Beat) → StandsForHistory set h (reads_as host.past) → TellsRun status (answer set h) host.past host'.past
+  pub answered : honest → (set : Settings) (h : List Beat) → StandsForHistory set h (reads_as host.past) → TellsPrefix (is_whole status) (answer set h) host.past host'.past
   -- where no call on the outside fails it is answered, or memory ran out
   pub complete : honest → (set : Settings) (h : List Beat) → StandsForHistory set h (reads_as host.past) → (Rose host.tell_faults host'.tell_faults → ⊥)
       → (Rose host.disk_faults host'.disk_faults → ⊥) → (status ≡ Done) ⊎ (status ≡ Memory)

@@ -6,7 +6,7 @@ use Rattle.host_model.specs.declared.status.Status.TheVariants.{Ok as Done, Refu
 use Rattle.host_model.specs.Cause.{HasCause, Rose}
 use Rattle.host_model.specs.Disks.{EveryDisk, reads_as}
 use Rattle.host_model.specs.Moments.{EveryCrash, Throughout}
-use Rattle.host_model.specs.Past.{told, Event}
+use Rattle.host_model.specs.Past.{told, Event, TellsPrefix}
 use Rattle.host_model.specs.Seen.{Seen}
 use Rattle.history.specs.declared.fault.BlockFault.{BlockFault}
 use Rattle.history.specs.History.{Beat}
@@ -26,7 +26,7 @@ use Rattle.link_session.specs.Session.{Exchanges, LinkSeen}
 use Rattle.link_session.specs.Taking.{ParentEndsAt}
 use Rattle.agent_app.specs.Bound.{GrowsBy}
 use Rattle.agent_app.specs.Convert.{refusal_line, refusal_status}
-use Rattle.agent_app.specs.Run.{finds_none, is_whole, Finds, IsHostAsFound, LeavesOthers, OnceRead, TellsRun}
+use Rattle.agent_app.specs.Run.{finds_none, is_whole, Finds, IsHostAsFound, LeavesOthers, OnceRead}
 use Rattle.agent_app.specs.Running.{TellRose, TellsRefusal}
 use Rattle.agent_app.specs.Sessions.{session_status, EndsAsBytes, TakesSession}
 
@@ -88,7 +88,7 @@ pub record Receives (status : Status) (set : Settings) (h0 : List Beat) (link li
   pub crashes : Throughout (EveryCrash (Keeps set h0 (done_with set h0 exchanges.frames).now.history (told old))) old new
   -- at the end all of them, unless the output, the disk or memory failed
   pub ends : is_whole status ≡ true → EveryDisk (StandsForHistory set (done_with set h0 exchanges.frames).now.history) new
-  pub output : TellsRun status ((done_with set h0 exchanges.frames).told ++ last_line result) old new
+  pub output : TellsPrefix (is_whole status) ((done_with set h0 exchanges.frames).told ++ last_line result) old new
   -- no failure of the output ends a session of which nothing is to be told
   pub told_for : status ≡ TellFault → (done_with set h0 exchanges.frames).told ++ last_line result ≡ [] → ⊥
   -- a history that was a copy of a child is one at every moment, where each Data that came is true of the child

@@ -7,7 +7,7 @@ use Rattle.host_model.specs.declared.status.Status.TheVariants.{Ok as Done, Refu
 use Rattle.host_model.specs.Cause.{HasCause, Rose}
 use Rattle.host_model.specs.Disks.{EveryDisk, reads_as}
 use Rattle.host_model.specs.Moments.{Throughout, EveryCrash}
-use Rattle.host_model.specs.Past.{Event, of, told, IsDisk}
+use Rattle.host_model.specs.Past.{Event, of, told, IsDisk, TellsPrefix}
 use Rattle.host_model.specs.Source.{Takes}
 use Rattle.history.specs.declared.chart.TheConstants.{USUAL_UPDATE_EVERY}
 use Rattle.history.specs.declared.fault.BlockFault.{BlockFault}
@@ -99,14 +99,6 @@ is_whole DiskFault = false
 is_whole Memory = false
 is_whole status = true
 
--- what was told since is a prefix of the output, and all of it where the status says so
-pub record TellsRun (status : Status) (output : List ℕ) (old new : List Event) : Type 0 where
-  pub sent : List ℕ
-  pub unsent : List ℕ
-  pub whole : output ≡ sent ++ unsent
-  pub tells : told new ≡ told old ++ sent
-  pub all : is_whole status ≡ true → unsent ≡ []
-
 -- why the run ended as it did
 abbrev pub HasRunCause : Status → Bool → Ending Refusal → List ℕ → (source_rose tell_rose disk_rose : Type 0) → Type 0
 HasRunCause DiskFault ended ending taken source_rose tell_rose disk_rose = disk_rose
@@ -118,7 +110,7 @@ pub record Stores (status : Status) (every : ℕ) (set : Settings) (h0 : List Be
   pub crashes : Throughout (EveryCrash (Keeps set h0 (history_with_text every h0 taken) (told old))) old new
   -- at the end all of them, unless the output, the disk or memory failed
   pub ends : is_whole status ≡ true → EveryDisk (StandsForHistory set (history_with_text every h0 taken)) new
-  pub output : TellsRun status (run_output every set h0 ended taken) old new
+  pub output : TellsPrefix (is_whole status) (run_output every set h0 ended taken) old new
   -- no failure of the output ends a run of which nothing is to be told
   pub told_for : status ≡ TellFault → run_output every set h0 ended taken ≡ [] → ⊥
 
@@ -154,7 +146,7 @@ pub record RunsOn (status : Status) (every : ℕ) (set : Settings) (h0 : List Be
   -- a text that closes no beat, as one of questions, writes nothing
   pub quiet : history_with_text every h0 runs.taken ≡ h0 → LeavesFiles read new
   -- the disk fails at an accepted MOMENT alone
-  pub stored_for : FailsAtBeat status every set h0 runs.ended runs.taken runs.stores.output.sent
+  pub stored_for : FailsAtBeat status every set h0 runs.ended runs.taken runs.stores.output.said
 
 -- a run on a database, where `On` says what it is once the database was read, and `untaken` that it took nothing
 pub record OnceRead (On : List Event → Type 0) (untaken : Type 0) (status : Status) (old new : List Event) : Type 0 where

@@ -50,7 +50,7 @@ pub record IsRunning (past : List Event) (running : Running) (every : ℕ) (set 
 -- the run over this text ended so
 pub record StopsIn (status : Status) (every : ℕ) (set : Settings) (h0 : List Beat) (ended : Bool) (text : List ℕ) (start new : List Event) (source_rose tell_rose disk_rose : Type 0) : Type 0 where
   pub stores : Stores status every set h0 ended text start new
-  pub stored_for : FailsAtBeat status every set h0 ended text stores.output.sent
+  pub stored_for : FailsAtBeat status every set h0 ended text stores.output.said
   pub cause : HasRunCause status ended (run_reading every set h0 ended text).ending text source_rose tell_rose disk_rose
 
 -- ---- what is told

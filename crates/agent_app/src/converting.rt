@@ -1,12 +1,12 @@
 //! A text whose points are told, line by line.
-ghost use Rattle.std.specs.Prelude.{◌≡◌, ◌+◌, ◌++◌, List, [], ℕ, length, string_bytes, IsErr, IsOk, OnOk, OnErr};
+ghost use Rattle.std.specs.Prelude.{◌≡◌, ◌+◌, ◌++◌, List, [], ℕ, false, length, string_bytes, IsErr, IsOk, OnOk, OnErr};
 ghost use Rattle.host_model.specs.Cause.{HasCause};
-ghost use Rattle.host_model.specs.Past.{told};
+ghost use Rattle.host_model.specs.Past.{told, TellsPrefix};
 ghost use Rattle.history.specs.declared.line.Line.{Line};
 ghost use Rattle.point_lines.specs.Reader.{IsReaderOf};
 ghost use Rattle.point_lines.specs.Told.{told_at_end};
 ghost use Rattle.agent_app.specs.Convert.{ending_line, LeavesDisk};
-ghost use Rattle.agent_app.specs.Converting.{converting_acts, AddsEnding, IsAt, TellsPrefix};
+ghost use Rattle.agent_app.specs.Converting.{converting_acts, AddsEnding, IsAt};
 ghost use Rattle.agent_app.specs.Reading.{Ends as IsOver, RefusedAt};
 
 use crate::refusals::{push_refusal, refusal_status};
@@ -33,7 +33,7 @@ pub(crate) fn tell_waiting<H: Host>(host: &mut H, out: &mut String) -> Result<()
         told (H.seen host.new).past ≡ told (H.seen host.old).past ++ string_bytes out.old) }
     ensures emptied { OnOk result (string_bytes out.new ≡ []) }
     ensures torn { OnErr result (H.honest →
-        TellsPrefix (string_bytes out.old) (H.seen host.old).past (H.seen host.new).past) }
+        TellsPrefix false (string_bytes out.old) (H.seen host.old).past (H.seen host.new).past) }
     ensures cause { HasCause (H.seen host.old).tell_faults (H.seen host.new).tell_faults
         (IsErr result) }
     ensures silent { string_bytes out.old ≡ [] → IsOk result × (host.new ≡ host.old) }
