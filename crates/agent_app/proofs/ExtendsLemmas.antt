@@ -70,10 +70,6 @@ module _ (every : ℕ) (h0 : List Beat) where
       by true (Err why) onward = record { later = []; whole = refl }
       by true (Ok said) onward = goes said (is_disable said) (onward said)
 
-  -- the history of a text
-  pub extends-whole : (text : List ℕ) → Extends h0 (history_with_text every h0 text)
-  extends-whole text = extends-lines (parts text) []
-
   -- and of one of which these lines are read
   pub extends-text : (set : Settings) (prefix : List (List ℕ)) (past : List Line) (made : List ℕ) → HasRead (run_rules every set h0) prefix past made → (text next : List ℕ) (more : List (List ℕ)) → parts text ≡ prefix ++ next ∷ more
       → Extends (history_at every h0 past) (history_with_text every h0 text)

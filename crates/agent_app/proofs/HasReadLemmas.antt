@@ -3,9 +3,8 @@ use Rattle.std.proofs.Common.{◌≡◌, ℕ, ◌+◌, ◌-◌, ◌<◌, ◌≤�
 use Rattle.std.proofs.lemmas.List.{take_all, take-append-le}
 use Rattle.std.proofs.lemmas.Bool.Decides.{nat_tests}
 use Rattle.std.proofs.Math.Seq.{take-append-add}
-use Rattle.std.specs.List.{AllPass}
 use Rattle.plugin_text.specs.Lines.{parts, but_last, lines, rest, fits}
-use Rattle.plugin_text.proofs.LongLemmas.{fits-append, IsLongAfter-append}
+use Rattle.plugin_text.proofs.LongLemmas.{fits-append}
 use Rattle.plugin_text.proofs.PartsLemmas.{but_last-append, parts_first, parts_whole, parts-append, parts-append_parts}
 use Rattle.agent_app.specs.Reading.{Ending, GoesOn, Ends, RefusedAt, HasRead, Reading, Rules, lines_read, over_after, reading, reading_line, reading_of, reads_on, refused_at}
 
@@ -38,14 +37,6 @@ module _ {Line Refusal : Type 0} (rules : Rules Line Refusal) where
   -- how the reading of the bytes ends that a run takes of a text
   unfoldable pub ending_within : ℕ → List ℕ → Ending Refusal
   ending_within limit text = (reading_of rules (nat_lt (length text) limit) (take limit text)).ending
-
-  -- a reading that ends in a text, however that goes on
-  pub within-over : (limit : ℕ) (text said : List ℕ) (ending : Ending Refusal) → ((ended : Bool) (more : List ℕ) → reading_of rules ended (text ++ more) ≡ record { told = said; ending = ending }) → length text ≤ limit → (more : List ℕ)
-      → ending_within limit (text ++ more) ≡ ending
-  unfolding ending_within
-  within-over limit text said ending over within more =
-      let ended = nat_lt (length (text ++ more)) limit in
-      ap (λ (t : List ℕ). (reading_of rules ended t).ending) (take-append_past limit text more within) ∙ ap (λ (r : Reading Refusal). r.ending) (over ended (take (limit - length text) more))
 
   -- one that ends at the end of the text
   pub within-ended : (limit : ℕ) (text : List ℕ) (whole : Reading Refusal) → reading_of rules true text ≡ whole → length text < limit → ending_within limit text ≡ whole.ending
@@ -162,24 +153,11 @@ module _ {Line Refusal : Type 0} (rules : Rules Line Refusal) where
     pub says-long : (text : List ℕ) (long : List ℕ) (more : List (List ℕ)) → parts text ≡ prefix ++ long ∷ more → fits long ≡ false → lines_read rules.lines [] (parts text) ≡ past
     says-long text long more whole over = ap (lines_read rules.lines []) whole ∙ has.says long more ∙ long-says long more over
 
-    -- the same, however the text goes on
-    pub refused-onward : (text : List ℕ) (line next : List ℕ) (more : List (List ℕ)) (why : Refusal) → parts text ≡ prefix ++ line ∷ next ∷ more → fits line ≡ true → rules.lines.judge past line ≡ Err why
-        → (ended : Bool) (behind : List ℕ) → reading_of rules ended (text ++ behind) ≡ record { told = made; ending = RefusedAt (length prefix + 1) why }
-    refused-onward text line next more why whole short judged ended behind =
-        let on = line-onward text prefix line next more whole behind in
-        read-refused (text ++ behind) line on.next on.more why ended on.whole short judged
-
     pub over-onward : (text : List ℕ) (line next : List ℕ) (more : List (List ℕ)) (said : Line) → parts text ≡ prefix ++ line ∷ next ∷ more → fits line ≡ true → rules.lines.judge past line ≡ Ok said → rules.lines.ends_text said ≡ true
         → (ended : Bool) (behind : List ℕ) → reading_of rules ended (text ++ behind) ≡ record { told = made ++ rules.tell_end past; ending = Ends }
     over-onward text line next more said whole short judged ends ended behind =
         let on = line-onward text prefix line next more whole behind in
         read-over (text ++ behind) line on.next on.more said ended on.whole short judged ends
-
-    pub long-onward : (text : List ℕ) (long : List ℕ) (more : List (List ℕ)) → parts text ≡ prefix ++ long ∷ more → AllPass fits prefix → fits long ≡ false
-        → (ended : Bool) (behind : List ℕ) → reading_of rules ended (text ++ behind) ≡ record { told = made; ending = RefusedAt (length prefix + 1) rules.too_long }
-    long-onward text long more whole short over ended behind =
-        let after = IsLongAfter-append text behind prefix (record { long = long; more = more; whole = whole; short = short; too_long = over }) in
-        read-long (text ++ behind) after.long after.more ended after.whole after.too_long
 
     -- all lines of the text were read
     module _ (text : List ℕ) (all : prefix ≡ lines text) where

@@ -45,10 +45,13 @@ abbrev pub refusal_tail : Refusal → List ℕ
 refusal_tail (refusal.Block (MomentOrder last)) = codes " " ++ decimal last
 refusal_tail why = []
 
+-- how a line begins that tells a refusal: whether that is of a limit, the line that is refused, and the number of why
+abbrev pub refused_words : Bool → ℕ → ℕ → List ℕ
+refused_words limit line number = (if limit then codes "LIMIT " else codes "REFUSED ") ++ decimal line ++ codes " " ++ decimal number
+
 -- the line that a refusal is told by
 abbrev pub refusal_line : ℕ → Refusal → List ℕ
-refusal_line line why =
-    (if is_limit why then codes "LIMIT " else codes "REFUSED ") ++ decimal line ++ codes " " ++ decimal (refusal_number why) ++ refusal_tail why ++ codes "\n"
+refusal_line line why = refused_words (is_limit why) line (refusal_number why) ++ refusal_tail why ++ codes "\n"
 
 -- what is told last of a reading
 abbrev pub ending_line : Ending Refusal → List ℕ
@@ -70,9 +73,13 @@ tells_all TellFault = false
 tells_all Memory = false
 tells_all _ = true
 
+-- the status that says the same
+abbrev pub refused_status : Bool → ℕ → ℕ → Status
+refused_status limit line number = if limit then Limit line number else Refused line number
+
 -- the status of a run whose text is refused so
 abbrev pub refusal_status : ℕ → Refusal → Status
-refusal_status line why = if is_limit why then Limit line (refusal_number why) else Refused line (refusal_number why)
+refusal_status line why = refused_status (is_limit why) line (refusal_number why)
 
 -- why the run ended as it did
 abbrev pub HasStatusCause : Status → Bool → Ending Refusal → List ℕ → (source_rose host_rose : Type 0) → Type 0

@@ -1,12 +1,11 @@
 -- What `health` promises.
 use Rattle.std.specs.Prelude.{◌≡◌, ◌⊎◌, ℕ, ◌+◌, ◌≤◌, Bool, true, false, ◌||◌, nat_lt, List, [], ◌∷◌, ◌++◌, length, take, Option, Some, None, IfSome, codes, if◌then◌else◌}
-use Rattle.std.specs.Fmt.{decimal}
 use Rattle.host_model.specs.declared.status.Status.{Status}
 use Rattle.host_model.specs.declared.status.Status.TheVariants.{Ok as Done, Refused, Limit, TellFault, DiskFault, ReadFault, Memory}
 use Rattle.host_model.specs.Cause.{HasCause, Rose}
 use Rattle.host_model.specs.Disks.{EveryDisk, reads_as}
 use Rattle.host_model.specs.Moments.{Throughout, EveryCrash}
-use Rattle.host_model.specs.Past.{Event, Told, told, TellsPrefix}
+use Rattle.host_model.specs.Past.{Event, told, TellsPrefix}
 use Rattle.host_model.specs.Seen.{Seen}
 use Rattle.host_model.specs.Source.{Takes}
 use Rattle.health_config.specs.declared.fault.ConfigFault.{ConfigFault}
@@ -24,8 +23,9 @@ use Rattle.agent_core.specs.Notes.{NotesGo}
 use Rattle.agent_core.specs.Replies.{reply_text}
 use Rattle.link_session.specs.Keeps.{Keeps, LeavesFiles}
 use Rattle.agent_app.specs.Bound.{AgentGrows, GrowsBy}
+use Rattle.agent_app.specs.Convert.{refused_status, refused_words}
 use Rattle.agent_app.specs.Run.{finds_none, is_whole, Finds, IsAsFound, LeavesOthers, OnceRead}
-use Rattle.agent_app.specs.Running.{Counts, DiskRose, IsCutShort, IsTakers, TellRose}
+use Rattle.agent_app.specs.Running.{Counts, DiskRose, IsTakers, TellRose, TellsEnd}
 
 -- ---- refusals
 
@@ -37,7 +37,7 @@ is_limit why = false
 
 -- the line of a refusal with this line and this number: the fault of memory has neither, and is told by nothing
 abbrev pub line_by : Bool → Option ℕ → Option ℕ → List ℕ
-line_by limit (Some line) (Some number) = (if limit then codes "LIMIT " else codes "REFUSED ") ++ decimal line ++ codes " " ++ decimal number ++ codes "\n"
+line_by limit (Some line) (Some number) = refused_words limit line number ++ codes "\n"
 line_by limit line number = []
 
 -- the line that a refusal is told by; that of the text as a whole has the line 0
@@ -45,7 +45,7 @@ abbrev pub fault_text : ConfigFault → List ℕ
 fault_text why = line_by (is_limit why) (fault_line why) (fault_number why)
 
 abbrev pub status_by : Bool → Option ℕ → Option ℕ → Status
-status_by limit (Some line) (Some number) = if limit then Limit line number else Refused line number
+status_by limit (Some line) (Some number) = refused_status limit line number
 status_by limit line number = Memory
 
 -- the status of a text that is refused so
@@ -179,8 +179,7 @@ pub record ConfiguresAll (honest : Type 0) (status : Status) (left left' : Optio
 
 -- why the text is refused was told, or that was cut short
 abbrev pub TellsFault : Status → (honest : Type 0) → ConfigFault → (old new : List Event) → (tell_rose : Type 0) → Type 0
-TellsFault status honest why old new tell_rose =
-    ((status ≡ fault_status why) × (honest → new ≡ Told (fault_text why) ∷ old)) ⊎ IsCutShort status honest (fault_text why) old new tell_rose
+TellsFault status honest why old new tell_rose = TellsEnd status (fault_status why) honest (fault_text why) old new tell_rose
 
 -- an agent was handed a text that has ended
 pub record StoresHealth (honest : Type 0) (agent : AgentState) (text : List ℕ) (status : Status) (host host' : Seen) : Type 0 where

@@ -60,10 +60,13 @@ abbrev pub IsCutShort : Status → (honest : Type 0) → (text : List ℕ) → (
 IsCutShort status honest text old new tell_rose =
     ((status ≡ TellFault) × tell_rose × (honest → MayAdd (λ (n : ℕ). Told (take n text)) old new)) ⊎ ((status ≡ Memory) × (new ≡ old))
 
+-- a text was told, and the run ends with the status that is wanted, or that was cut short
+abbrev pub TellsEnd : (status wanted : Status) → (honest : Type 0) → (text : List ℕ) → (old new : List Event) → (tell_rose : Type 0) → Type 0
+TellsEnd status wanted honest text old new tell_rose = ((status ≡ wanted) × (honest → new ≡ Told text ∷ old)) ⊎ IsCutShort status honest text old new tell_rose
+
 -- a refusal was told, and that is how the run ends, or that was cut short
 abbrev pub TellsRefusal : Status → (honest : Type 0) → ℕ → Refusal → (old new : List Event) → (tell_rose : Type 0) → Type 0
-TellsRefusal status honest line why old new tell_rose =
-    ((status ≡ refusal_status line why) × (honest → new ≡ Told (refusal_line line why) ∷ old)) ⊎ IsCutShort status honest (refusal_line line why) old new tell_rose
+TellsRefusal status honest line why old new tell_rose = TellsEnd status (refusal_status line why) honest (refusal_line line why) old new tell_rose
 
 -- ---- the steps of a run
 
@@ -139,7 +142,7 @@ run_acts honest seen = record {
   overflows = λ running host number status running' host'. Overflows honest running (seen host) number status (seen host');
 }
 
--- the status of a run whose database was not opened
+-- the status of a command whose database was not opened, or that wanted memory
 abbrev pub opening_status : AgentFault → Status
 opening_status agent_fault.DiskFault = DiskFault
 opening_status agent_fault.NotADatabase = NotADatabase

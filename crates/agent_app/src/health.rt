@@ -6,13 +6,12 @@ ghost use Rattle.agent_core.specs.Agent.{AgentIsReady};
 ghost use Rattle.agent_app.specs.Health.{fault_status, fault_text, is_limit, ConfiguresAll, Handled, StoresHealth, TellsFault};
 
 use crate::health_text::{HealthEnd, read_health};
-use crate::query::memory_status;
+use crate::refusals::{push_words, refused_status};
 use crate::run::opening_status;
 use crate::running::{tell_stored, tell_text};
 use agent_core::{Agent, AgentFault, ConfigFault};
 use host_model::{Host, Source, Status};
 use std::alloc::{AllocError, Global};
-use std::fmt::Write;
 
 /// Whether the refusal is that of a limit on what a configuration has.
 fn is_limit(fault: ConfigFault) -> bool
@@ -35,11 +34,8 @@ fn push_fault(
     requires number { fault_number fault ≡ Some number }
     ensures { OnOk result (string_bytes out.new ≡ string_bytes out.old ++ fault_text fault) }
 {
-    if is_limit(fault) {
-        writeln!(out, "LIMIT {line} {number}")
-    } else {
-        writeln!(out, "REFUSED {line} {number}")
-    }
+    push_words(out, is_limit(fault), line, number)?;
+    out.push_str("\n")
 }
 
 /// The status of a text that is refused so.
@@ -48,11 +44,7 @@ fn fault_status(fault: ConfigFault, line: u64, number: u32) -> Status
     requires number { fault_number fault ≡ Some number }
     ensures { result ≡ fault_status fault }
 {
-    if is_limit(fault) {
-        Status::Limit(line, number)
-    } else {
-        Status::Refused(line, number)
-    }
+    refused_status(is_limit(fault), line, number)
 }
 
 /// Tells why a text is refused, and says how the command ends.
@@ -91,7 +83,7 @@ fn store<H: Host>(alloc: Global, agent: &mut Agent, text: &[u8], host: &mut H) -
         },
         Err(AgentFault::Health(fault)) => tell_fault(alloc, host, fault),
         Err(AgentFault::DiskFault) => Status::DiskFault,
-        Err(fault) => memory_status(fault),
+        Err(fault) => opening_status(fault),
     }
 }
 

@@ -8,7 +8,7 @@ ghost use Rattle.agent_app.specs.Query.{joined, question_of, reply_for, Answerin
 
 use crate::run::opening_status;
 use crate::running::tell_text;
-use agent_core::{Agent, AgentFault};
+use agent_core::Agent;
 use fixed_num::{Text, WordsList};
 use host_model::{Host, Status};
 use std::alloc::{AllocError, Global};
@@ -69,23 +69,6 @@ pub(crate) fn tell_reply<H: Host>(host: &mut H, text: &str) -> Status
     }
 }
 
-/// How a command ends whose agent, which was still of use, could not do what it was asked: memory ran out.
-pub(crate) fn memory_status(fault: AgentFault) -> Status
-    requires { fault ≡ AgentFault.Memory }
-    ensures { result ≡ Status.Memory }
-{
-    match fault {
-        AgentFault::Memory => Status::Memory,
-        AgentFault::Refused(_)
-        | AgentFault::Health(_)
-        | AgentFault::DiskFault
-        | AgentFault::NotADatabase
-        | AgentFault::Damaged(_)
-        | AgentFault::Reopen(_)
-        | AgentFault::Exists => unreachable!(),
-    }
-}
-
 /// Tells the reply of an agent to a question.
 fn answer<H: Host>(agent: &mut Agent, text: &str, host: &mut H) -> Status
     requires ready { AgentIsReady H.honest (H.seen host.old).past agent.old }
@@ -95,7 +78,7 @@ fn answer<H: Host>(agent: &mut Agent, text: &str, host: &mut H) -> Status
 {
     match agent.query(host, text) {
         Ok(reply) => tell_reply(host, reply.as_str()),
-        Err(fault) => memory_status(fault),
+        Err(fault) => opening_status(fault),
     }
 }
 

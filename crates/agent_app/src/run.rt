@@ -10,7 +10,7 @@ use host_model::{Host, Source, Status};
 use line_stream::take_text;
 use std::alloc::Global;
 
-/// The status of a run whose database was not opened.
+/// The status of a command whose database was not opened, or that wanted memory.
 pub(crate) fn opening_status(fault: AgentFault) -> Status
     ensures { result ≡ opening_status fault }
 {

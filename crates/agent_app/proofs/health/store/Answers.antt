@@ -3,6 +3,7 @@ use Rattle.host_model.specs.declared.status.Status.{Status}
 use Rattle.host_model.specs.Seen.{Seen}
 use Rattle.agent_core.specs.declared.fault.AgentFault.{AgentFault}
 use Rattle.agent_app.specs.Health.{StoresHealth}
+use Rattle.agent_app.specs.Running.{opening_status}
 use Rattle.agent_app.proofs.HealthLemmas.{cut-cause, cut-storing, disk-failed-storing, done-cause, memory-storing, refused-storing, told-storing, want-storing}
 use Rattle.agent_app.proofs.health.store.Goals as goal
 
@@ -35,16 +36,11 @@ returns-in-Err-DiskFault g c =
     disk-failed-storing g.H.Host.honest c.args.agent.now c.args.text.now (g.H.Host.seen c.args.host.now) c.set_health.result (g.H.Host.seen c.set_health.new.host) c.set_health.new.self c.set_health.ensures c.requires.going
     (c.in-Err-DiskFault.is ∙ ap (λ (f : AgentFault). Err f) c.in-Err-DiskFault.field-0-is)
 
-pub memory_status-requires : goal.memory_status-requires
-memory_status-requires g c =
-    memory-storing g.H.Host.honest c.args.agent.now c.args.text.now (g.H.Host.seen c.args.host.now) c.set_health.result (g.H.Host.seen c.set_health.new.host) c.set_health.new.self c.set_health.ensures c.requires.going
-    c.in-Err.fault c.in-Err.is (λ refused e. grind (arith, e)) (λ e. grind (arith, e))
-
 pub returns : goal.returns
 returns g c =
     let host : Seen = g.H.Host.seen c.args.host.now in
     let middle : Seen = g.H.Host.seen c.set_health.new.host in
-    subst (λ (s : Status). StoresHealth g.H.Host.honest c.args.agent.now c.args.text.now s host middle) (sym c.memory_status.ensures)
-    (want-storing g.H.Host.honest c.args.agent.now c.args.text.now host c.set_health.result middle c.set_health.new.self c.set_health.ensures c.requires.going
-    (c.in-Err.is ∙ ap (λ (f : AgentFault). Err f) (memory-storing g.H.Host.honest c.args.agent.now c.args.text.now host c.set_health.result middle c.set_health.new.self c.set_health.ensures c.requires.going
-    c.in-Err.fault c.in-Err.is (λ refused e. grind (arith, e)) (λ e. grind (arith, e)))))
+    let memory = memory-storing g.H.Host.honest c.args.agent.now c.args.text.now host c.set_health.result middle c.set_health.new.self c.set_health.ensures c.requires.going
+    c.in-Err.fault c.in-Err.is (λ refused e. grind (arith, e)) (λ e. grind (arith, e)) in
+    subst (λ (s : Status). StoresHealth g.H.Host.honest c.args.agent.now c.args.text.now s host middle) (sym (c.opening_status.ensures ∙ ap opening_status memory))
+    (want-storing g.H.Host.honest c.args.agent.now c.args.text.now host c.set_health.result middle c.set_health.new.self c.set_health.ensures c.requires.going (c.in-Err.is ∙ ap (λ (f : AgentFault). Err f) memory))

@@ -1,4 +1,4 @@
-use Rattle.std.proofs.Common.{Result, subst, sym, ◌∙◌}
+use Rattle.std.proofs.Common.{Result, ap, subst, sym, ◌∙◌}
 use Rattle.host_model.specs.declared.status.Status.{Status}
 use Rattle.host_model.specs.Seen.{Seen}
 use Rattle.alarm_events.specs.declared.log.Log.{Log}
@@ -6,15 +6,14 @@ use Rattle.agent_core.specs.declared.fault.AgentFault.{AgentFault}
 use Rattle.agent_core.specs.Calls.{Logs}
 use Rattle.agent_app.specs.Log.{log_for}
 use Rattle.agent_app.specs.Query.{Answering}
+use Rattle.agent_app.specs.Running.{opening_status}
 use Rattle.agent_app.proofs.AskLemmas.{log-by, memory-logging, unasked}
 use Rattle.agent_app.proofs.log.tell_log.Goals as goal
 
-pub memory_status-requires : goal.memory_status-requires
-memory_status-requires g c = memory-logging c.args.agent.now c.requires c.log.result c.log.ensures c.in-Err.fault c.in-Err.is
-
 pub returns-in-Err : goal.returns-in-Err
 returns-in-Err g c =
-    subst (λ (s : Status). Answering g.H.Host.honest c.args.agent.now (log_for c.args.form) s (g.H.Host.seen c.args.host.now) (g.H.Host.seen c.args.host.now)) (sym c.memory_status.ensures)
+    let memory = memory-logging c.args.agent.now c.requires c.log.result c.log.ensures c.in-Err.fault c.in-Err.is in
+    subst (λ (s : Status). Answering g.H.Host.honest c.args.agent.now (log_for c.args.form) s (g.H.Host.seen c.args.host.now) (g.H.Host.seen c.args.host.now)) (sym (c.opening_status.ensures ∙ ap opening_status memory))
     (unasked g.H.Host.honest c.args.agent.now (log_for c.args.form) (g.H.Host.seen c.args.host.now))
 
 pub returns-in-Ok-write_as : goal.returns-in-Ok-write_as
