@@ -31,12 +31,6 @@ mod random;
 #[cfg(test)]
 mod replaced_crashes;
 #[cfg(test)]
-mod run;
-#[cfg(test)]
-mod script;
-#[cfg(test)]
-mod steps;
-#[cfg(test)]
 mod stored;
 #[cfg(test)]
 mod usage;
