@@ -1,5 +1,5 @@
 -- The files of a database stay within their shares over a command.
-use Rattle.std.proofs.Common.{◌≡◌, true, inl, inr, ℕ, ◌≤◌, List, [], Option, Some, None, Result, Ok, Err, IfOk, sym, subst, le_refl}
+use Rattle.std.proofs.Common.{◌≡◌, true, inl, inr, ℕ, ◌≤◌, List, [], Option, Some, None, Result, Ok, Err, IfOk, sym, subst}
 use Rattle.host_model.specs.declared.file.File.{File}
 use Rattle.host_model.specs.declared.status.Status.{Status}
 use Rattle.host_model.specs.Disks.{EveryDisk, reads_as}
@@ -21,7 +21,6 @@ use Rattle.agent_core.specs.declared.fault.AgentFault.{AgentFault}
 use Rattle.agent_core.specs.Agent.{AgentState}
 use Rattle.agent_core.specs.Bound.{GrowsWithin, HasReached, RunsWithin}
 use Rattle.agent_core.specs.Calls.{Opens}
-use Rattle.agent_core.specs.Gaps.{side_share}
 use Rattle.agent_core.specs.Notes.{NotesGo}
 use Rattle.agent_core.proofs.BoundLemmas.{below-most, store-reached}
 use Rattle.agent_core.proofs.RunLemmas.{runs-both, runs-none, runs-still, runs-told}
@@ -75,25 +74,25 @@ module _ (set : Settings) (limit : ℕ) where
 
 -- calls of an agent that is of a history
 pub runs-grow : (honest : Type 0) (host host' : Seen) (agent agent' : AgentState) → RunsWithin honest host agent host' agent' → honest → AgentGrows agent host.past host'.past
-runs-grow honest host host' agent agent' runs h set g is_of =
-    grown set (side_share set) host.past host'.past agent.store agent'.store (store-reached host.past agent.store is_of.holds.stored is_of.holds.store_of)
-    (runs.bound h set (record { h = g; tried = []; sound = inl is_of }) (side_share set) (le_refl (side_share set)))
+runs-grow honest host host' agent agent' runs h set g is_of limit fits =
+    grown set limit host.past host'.past agent.store agent'.store (store-reached host.past agent.store is_of.holds.stored is_of.holds.store_of)
+    (runs.bound h set (record { h = g; tried = []; sound = inl is_of }) limit fits)
 
 -- nothing was asked of it
 pub idle-grows : (agent : AgentState) (past : List Event) → AgentGrows agent past past
-idle-grows agent past set g is_of disk images numbered = still-within (share set (side_share set)) past
+idle-grows agent past set g is_of limit fits disk images numbered = still-within (share set limit) past
 
 pub grows-before : (agent : AgentState) (old middle new : List Event) → AgentGrows agent old middle → LeavesFiles middle new → AgentGrows agent old new
-grows-before agent old middle new grows leaves set g is_of = ends-before set (side_share set) old middle new (grows set g is_of) leaves
+grows-before agent old middle new grows leaves set g is_of limit fits = ends-before set limit old middle new (grows set g is_of limit fits) leaves
 
 -- ---- a database that is opened, or not
 module _ (honest : Type 0) (host middle : Seen) where
   pub unopened-grows : (why : AgentFault) → Opens honest host (Err why) middle → honest → GrowsBy host.past middle.past
-  unopened-grows why opens h set g here disk images numbered = opens.bound (share set (side_share set)) h
+  unopened-grows why opens h set g here limit fits disk images numbered = opens.bound (share set limit) h
 
   pub opened-grows : (agent : AgentState) (new : List Event) → Opens honest host (Ok agent) middle → honest → AgentGrows agent middle.past new → GrowsBy host.past new
-  opened-grows agent new opens h grows set g here =
-      ends-behind set (side_share set) host.past middle.past new (opens.bound (share set (side_share set)) h) (grows set g (opens.opened h set g here))
+  opened-grows agent new opens h grows set g here limit fits =
+      ends-behind set limit host.past middle.past new (opens.bound (share set limit) h) (grows set g (opens.opened h set g here) limit fits)
 
 -- ---- what is told touches no file
 pub cut-written : (s : Status) (honest : Type 0) (text : List ℕ) (old new : List Event) (tell_rose : Type 0) → IsCutShort s honest text old new tell_rose → honest → LeavesFiles old new
@@ -161,7 +160,7 @@ unopened-stays honest host host' h as_found none shares = found-within shares ho
 -- of which nothing was done
 module _ (past : List Event) where
   still-grows : GrowsBy past past
-  still-grows set h here disk images numbered = still-within (share set (side_share set)) past
+  still-grows set h here limit fits disk images numbered = still-within (share set limit) past
 
   still-unopened : StaysUnopened past past
   still-unopened none shares = still-within shares past
@@ -171,7 +170,7 @@ module _ (past : List Event) where
   stays-still (Some (Collect every starts)) = (still-grows, still-unopened)
   stays-still (Some Health) = (still-grows, still-unopened)
   stays-still (Some Receive) = (still-grows, still-unopened)
-  stays-still (Some (New plan)) = let set = settings_for plan in still-within (share set (side_share set)) past
+  stays-still (Some (New plan)) = λ limit fits. still-within (share (settings_for plan) limit) past
   stays-still (Some Convert) = λ shares. still-within shares past
   stays-still (Some (Log form)) = λ shares. still-within shares past
   stays-still (Some Query) = λ shares. still-within shares past

@@ -28,7 +28,6 @@ use Rattle.link_session.specs.Keeps.{no_more, Keeps, LeavesFiles}
 use Rattle.link_session.proofs.AckLemmas.{acked-nothing, acked-since, text-prefix}
 use Rattle.link_session.proofs.StoreLemmas.{stands-all}
 use Rattle.agent_app.specs.declared.running.Running.{Running}
-use Rattle.agent_core.specs.Gaps.{side_share}
 use Rattle.agent_app.specs.Bound.{GrowsBy}
 use Rattle.agent_app.specs.Run.{ends_a_run, finds_none, history_with_text, is_opened, Finds, is_whole, IsAsFound, IsHostAsFound, LeavesOthers, run_every, run_output, run_reading, run_rules, run_status, HasRunCause, Resumes, Runs, RunsAll, Stores}
 use Rattle.agent_app.specs.Running.{opening_status, run_acts, Counts, DiskRose, IsRunning, TellRose}
@@ -394,10 +393,10 @@ module _ {H : Type 0} (honest : Type 0) (seen : H → Seen) (host : Seen) (agent
         ends = for-all;
         counts = both-counts host (seen middle) (seen host') (s ≡ status.TellFault) (s ≡ status.DiskFault) opening for-all.counts;
         others = both-others honest host (seen middle) (seen host') (λ h. (opens.only_here h).others) for-all.others;
-        bound = λ h set h0 here.
-            ends-behind set (side_share set) host.past (seen middle).past (seen host').past (opens.bound (share set (side_share set)) h)
+        bound = λ h set h0 here limit fits.
+            ends-behind set limit host.past (seen middle).past (seen host').past (opens.bound (share set limit) h)
             (run-grows honest seen h every set h0 (seen middle).past s running middle (begins-read h set h0 here) text left source_rose running' host' how set h0
-            (subst (λ (a : AgentState). IsAgentOf (seen middle).past a set h0) (sym agent-is) (opens.opened h set h0 here)));
+            (subst (λ (a : AgentState). IsAgentOf (seen middle).past a set h0) (sym agent-is) (opens.opened h set h0 here)) limit fits);
         stops = λ h set h0 stands. over-since h set h0 host.past (begins-so h set h0 stands);
         stands = stands-now;
         resumes = λ h set h0 here. over-since h set h0 (seen middle).past (begins-read h set h0 here);

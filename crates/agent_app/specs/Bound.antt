@@ -1,5 +1,5 @@
 -- How far the files of a database grow over a command: at every moment each stays within its share.
-use Rattle.std.specs.Prelude.{◌≡◌, ℕ, true, List, Option, Some}
+use Rattle.std.specs.Prelude.{◌≡◌, ℕ, ◌≤◌, true, List, Option, Some}
 use Rattle.host_model.specs.declared.file.File.{File}
 use Rattle.host_model.specs.Disks.{reads_as}
 use Rattle.host_model.specs.Moments.{Throughout}
@@ -30,13 +30,13 @@ IsNumbered disk = (stored : Stored) → Stands stored disk → is_numbered store
 abbrev pub EndsWithin : Settings → (limit : ℕ) → (old new : List Event) → Type 0
 EndsWithin set limit old new = (disk : File → List ℕ) → IsDisk new disk → IsNumbered disk → StaysWithin (share set limit) old new
 
--- on a disk that reads as a database of whatever history
+-- on a disk that reads as a database of whatever history, by each share that has room for the side of these settings
 abbrev pub GrowsBy : (old new : List Event) → Type 0
-GrowsBy old new = (set : Settings) (h : List Beat) → StandsForHistory set h (reads_as old) → EndsWithin set (side_share set) old new
+GrowsBy old new = (set : Settings) (h : List Beat) → StandsForHistory set h (reads_as old) → (limit : ℕ) → side_share set ≤ limit → EndsWithin set limit old new
 
 -- the same of an agent that is of whatever history
 abbrev pub AgentGrows : AgentState → (old new : List Event) → Type 0
-AgentGrows agent old new = (set : Settings) (h : List Beat) → IsAgentOf old agent set h → EndsWithin set (side_share set) old new
+AgentGrows agent old new = (set : Settings) (h : List Beat) → IsAgentOf old agent set h → (limit : ℕ) → side_share set ≤ limit → EndsWithin set limit old new
 
 -- where no database can be opened, no file grows
 abbrev pub StaysUnopened : (old new : List Event) → Type 0
@@ -49,5 +49,5 @@ StaysBy (Some Run) old new = GrowsBy old new × StaysUnopened old new
 StaysBy (Some (Collect every starts)) old new = GrowsBy old new × StaysUnopened old new
 StaysBy (Some Health) old new = GrowsBy old new × StaysUnopened old new
 StaysBy (Some Receive) old new = GrowsBy old new × StaysUnopened old new
-StaysBy (Some (New plan)) old new = let set = settings_for plan in StaysWithin (share set (side_share set)) old new
+StaysBy (Some (New plan)) old new = let set = settings_for plan in (limit : ℕ) → side_share set ≤ limit → StaysWithin (share set limit) old new
 StaysBy command old new = (shares : File → ℕ) → StaysWithin shares old new

@@ -1,6 +1,6 @@
 -- What is left of an agent by the calls that it makes on its store.
 use Rattle.std.proofs.Common.{◌≡◌, ℕ, inl, inr, List, Option, Some, None, Result, Ok, Err, IfErr, IsErrOf, OnOk, refl, sym, ap, ◌∙◌, subst, arith}
-use Rattle.std.proofs.lemmas.Option.{none-some, same_Some}
+use Rattle.std.proofs.lemmas.Option.{none-some}
 use Rattle.host_model.specs.Cause.{HasCause, Rose}
 use Rattle.host_model.specs.Past.{Event}
 use Rattle.host_model.specs.Seen.{Seen}
@@ -77,22 +77,22 @@ keeps-both honest host middle new store between after value result first second 
 }
 
 -- a checkpoint failed: the disk did, or memory ran out
-checkpoint-spends : (fault : StoreFault) (given : AgentFault) (before : Option Why) → fault_of fault ≡ Some given → IsCheckpointFault fault → StoreReopensWith before fault → before ≡ None → IsSpending given
-checkpoint-spends fault given before is (inl disk) reopens going = subst IsSpending (same_Some DiskFault given (ap fault_of (sym disk) ∙ is)) tt
-checkpoint-spends fault given before is (inr (inl memory)) reopens going = subst IsSpending (same_Some Memory given (ap fault_of (sym memory) ∙ is)) tt
+checkpoint-spends : (fault : StoreFault) (given : AgentFault) (before : Option Why) → given ≡ fault_of fault → IsCheckpointFault fault → StoreReopensWith before fault → before ≡ None → IsSpending given
+checkpoint-spends fault given before is (inl disk) reopens going = subst IsSpending (sym (is ∙ ap fault_of disk)) tt
+checkpoint-spends fault given before is (inr (inl memory)) reopens going = subst IsSpending (sym (is ∙ ap fault_of memory)) tt
 checkpoint-spends fault given before is (inr (inr earlier)) reopens going = absurd (none-some earlier.0 (sym going ∙ subst (StoreReopensWith before) earlier.1 reopens))
 
 -- the disk failed where it did for the store
-store-cause : (old new : ℕ) (fault : StoreFault) (given : AgentFault) → fault_of fault ≡ Some given → HasCause old new (IsErrOf {T = Unit {0}} (Err fault) store.DiskFault) → HasCause old new (IsErrOf {T = Unit {0}} (Err given) DiskFault)
-store-cause old new store.DiskFault given is cause = record { later = cause.later; failed = λ disk. cause.failed refl; stays = λ other. absurd (other (ap (λ (f : AgentFault). Err f) (sym (same_Some DiskFault given is)))) }
+store-cause : (old new : ℕ) (fault : StoreFault) (given : AgentFault) → given ≡ fault_of fault → HasCause old new (IsErrOf {T = Unit {0}} (Err fault) store.DiskFault) → HasCause old new (IsErrOf {T = Unit {0}} (Err given) DiskFault)
+store-cause old new store.DiskFault given is cause = record { later = cause.later; failed = λ disk. cause.failed refl; stays = λ other. absurd (other (ap (λ (f : AgentFault). Err f) is)) }
 store-cause old new store.NotADatabase given is cause = record { later = cause.later; failed = λ disk. absurd cc; stays = λ other. cause.stays (λ disk. absurd cc) }
 store-cause old new (store.Damaged part) given is cause = record { later = cause.later; failed = λ disk. absurd cc; stays = λ other. cause.stays (λ disk. absurd cc) }
-store-cause old new store.MomentOrder given is cause = record { later = cause.later; failed = λ disk. absurd cc; stays = λ other. cause.stays (λ disk. absurd cc) }
+store-cause old new (store.MomentOrder last) given is cause = record { later = cause.later; failed = λ disk. absurd cc; stays = λ other. cause.stays (λ disk. absurd cc) }
 store-cause old new (store.Reopen why) given is cause = record { later = cause.later; failed = λ disk. absurd cc; stays = λ other. cause.stays (λ disk. absurd cc) }
 store-cause old new store.Exists given is cause = record { later = cause.later; failed = λ disk. absurd cc; stays = λ other. cause.stays (λ disk. absurd cc) }
 store-cause old new store.Memory given is cause = record { later = cause.later; failed = λ disk. absurd cc; stays = λ other. cause.stays (λ disk. absurd cc) }
 
-pub checkpoint-failed : (honest : Type 0) (host host' : Seen) (old new : StoreState) (fault : StoreFault) (given : AgentFault) → fault_of fault ≡ Some given → IsCheckpointFault fault
+pub checkpoint-failed : (honest : Type 0) (host host' : Seen) (old new : StoreState) (fault : StoreFault) (given : AgentFault) → given ≡ fault_of fault → IsCheckpointFault fault
     → StoreReopensWith old.fault fault → old.fault ≡ None → IsReady honest host'.past new → IsReplayed old → new.waiting ≡ old.waiting → new.body.settings ≡ old.body.settings
     → HasCause host.disk_faults host'.disk_faults (IsErrOf {T = Unit {0}} (Err fault) store.DiskFault) → (honest → OnlyOwn host.past host'.past) → host'.tell_faults ≡ host.tell_faults
     → KeepsStore {T = Unit {0}} honest host old (Err given) host' new

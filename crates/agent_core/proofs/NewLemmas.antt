@@ -94,26 +94,23 @@ one-fault a b same = cc
 abbrev store_failed_as : {A : Type 0} → StoreFault → Result A StoreFault
 store_failed_as fault = Err fault
 
-same-told : (a b : AgentFault) → Some a ≡ Some b → a ≡ b
-same-told a b same = cc
-
 one-store : {A : Type 0} (a b : StoreFault) → store_failed_as {A = A} a ≡ store_failed_as b → a ≡ b
 one-store a b same = cc
 
 -- the disk fails it exactly where it failed its store
-pub made-cause : {A B : Type 0} (old new : ℕ) (result : Result A StoreFault) (fault : StoreFault) (told : AgentFault) → result ≡ store_failed_as fault → fault_of fault ≡ Some told
+pub made-cause : {A B : Type 0} (old new : ℕ) (result : Result A StoreFault) (fault : StoreFault) (told : AgentFault) → result ≡ store_failed_as fault → told ≡ fault_of fault
     → HasCause old new (result ≡ store_failed_as store_fault.DiskFault) → HasCause old new (failed_as {A = B} told ≡ failed_as agent_fault.DiskFault)
 made-cause {A = A} {B = B} old new result fault told is says cause = record {
   later = cause.later;
-  failed = λ failed. cause.failed (is ∙ ap (λ (f : StoreFault). store_failed_as f) (told-by fault agent_fault.DiskFault (says ∙ ap (λ (f : AgentFault). Some f) (one-fault {A = B} told agent_fault.DiskFault failed))));
-  stays = λ other. cause.stays (λ failed. other (ap (λ (f : AgentFault). failed_as f) (same-told told agent_fault.DiskFault (sym says ∙ ap fault_of (one-store {A = A} fault store_fault.DiskFault (sym is ∙ failed))))));
+  failed = λ failed. cause.failed (is ∙ ap (λ (f : StoreFault). store_failed_as f) (told-by fault agent_fault.DiskFault (sym (one-fault {A = B} told agent_fault.DiskFault failed) ∙ says) tt));
+  stays = λ other. cause.stays (λ failed. other (ap (λ (f : AgentFault). failed_as f) (says ∙ ap fault_of (one-store {A = A} fault store_fault.DiskFault (sym is ∙ failed)))));
 }
 
 -- ---- where there is a database already
-told-as : (fault known : StoreFault) (told is : AgentFault) → fault_of fault ≡ Some told → fault_of known ≡ Some is → fault ≡ known → told ≡ is
-told-as fault known told is says of same = same-told told is (sym says ∙ ap fault_of same ∙ of)
+told-as : (fault known : StoreFault) (told is : AgentFault) → told ≡ fault_of fault → fault_of known ≡ is → fault ≡ known → told ≡ is
+told-as fault known told is says of same = says ∙ ap fault_of same ∙ of
 
-pub made-told : {A B : Type 0} (result : Result A StoreFault) (fault : StoreFault) (told : AgentFault) → result ≡ store_failed_as fault → fault_of fault ≡ Some told
+pub made-told : {A B : Type 0} (result : Result A StoreFault) (fault : StoreFault) (told : AgentFault) → result ≡ store_failed_as fault → told ≡ fault_of fault
     → (result ≡ store_failed_as store_fault.Exists) ⊎ (result ≡ store_failed_as store_fault.DiskFault) ⊎ (result ≡ store_failed_as store_fault.Memory)
     → (failed_as {A = B} told ≡ failed_as agent_fault.Exists) ⊎ ((failed_as {A = B} told ≡ failed_as agent_fault.DiskFault) ⊎ (failed_as {A = B} told ≡ failed_as agent_fault.Memory))
 made-told {A = A} {B = B} result fault told is says (inl e) =
@@ -123,18 +120,18 @@ made-told {A = A} {B = B} result fault told is says (inr (inl e)) =
 made-told {A = A} {B = B} result fault told is says (inr (inr e)) =
     inr (inr (ap (λ (f : AgentFault). failed_as f) (told-as fault store_fault.Memory told agent_fault.Memory says refl (one-store {A = A} fault store_fault.Memory (sym is ∙ e)))))
 
-pub made-memory : {A B : Type 0} (result : Result A StoreFault) (fault : StoreFault) (told : AgentFault) → result ≡ store_failed_as fault → fault_of fault ≡ Some told
+pub made-memory : {A B : Type 0} (result : Result A StoreFault) (fault : StoreFault) (told : AgentFault) → result ≡ store_failed_as fault → told ≡ fault_of fault
     → failed_as {A = B} told ≡ failed_as agent_fault.Memory → result ≡ store_failed_as store_fault.Memory
 made-memory {A = A} {B = B} result fault told is says memory =
-    is ∙ ap (λ (f : StoreFault). store_failed_as f) (told-by fault agent_fault.Memory (says ∙ ap (λ (f : AgentFault). Some f) (one-fault {A = B} told agent_fault.Memory memory)))
+    is ∙ ap (λ (f : StoreFault). store_failed_as f) (told-by fault agent_fault.Memory (sym (one-fault {A = B} told agent_fault.Memory memory) ∙ says) tt)
 
-pub made-exists : {A B : Type 0} (result : Result A StoreFault) (fault : StoreFault) (told : AgentFault) → result ≡ store_failed_as fault → fault_of fault ≡ Some told
+pub made-exists : {A B : Type 0} (result : Result A StoreFault) (fault : StoreFault) (told : AgentFault) → result ≡ store_failed_as fault → told ≡ fault_of fault
     → failed_as {A = B} told ≡ failed_as agent_fault.Exists → result ≡ store_failed_as store_fault.Exists
 made-exists {A = A} {B = B} result fault told is says exists =
-    is ∙ ap (λ (f : StoreFault). store_failed_as f) (told-by fault agent_fault.Exists (says ∙ ap (λ (f : AgentFault). Some f) (one-fault {A = B} told agent_fault.Exists exists)))
+    is ∙ ap (λ (f : StoreFault). store_failed_as f) (told-by fault agent_fault.Exists (sym (one-fault {A = B} told agent_fault.Exists exists) ∙ says) tt)
 
 -- the faults of a store that is not made
-pub made-faults : (fault : StoreFault) (told : AgentFault) → fault_of fault ≡ Some told → IsCreateFault fault → IsCreating told
+pub made-faults : (fault : StoreFault) (told : AgentFault) → told ≡ fault_of fault → IsCreateFault fault → IsCreating told
 made-faults fault told says (inl e) = subst IsCreating (sym (told-as fault store_fault.DiskFault told agent_fault.DiskFault says refl e)) tt
 made-faults fault told says (inr (inl e)) = subst IsCreating (sym (told-as fault store_fault.Exists told agent_fault.Exists says refl e)) tt
 made-faults fault told says (inr (inr e)) = subst IsCreating (sym (told-as fault store_fault.Memory told agent_fault.Memory says refl e)) tt

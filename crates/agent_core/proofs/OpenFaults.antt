@@ -1,7 +1,7 @@
 -- Why an agent is not opened: the faults of its store, and of its replay.
-use Rattle.std.proofs.Common.{◌≡◌, ◌⊎◌, inl, inr, ℕ, zero, suc, ◌≤◌, true, List, Option, Some, None, IsSome, Result, Ok, Err, IfErr, IsErrOf, refl, sym, ap, ◌∙◌, subst, arith}
+use Rattle.std.proofs.Common.{◌≡◌, ◌⊎◌, inl, inr, ℕ, zero, suc, ◌≤◌, true, List, Option, Some, None, Result, Ok, Err, IfErr, IsErrOf, refl, sym, ap, ◌∙◌, subst, arith}
 use Rattle.std.specs.Option.{is_some}
-use Rattle.std.proofs.lemmas.Option.{none-some, same_Some}
+use Rattle.std.proofs.lemmas.Option.{none-some}
 use Rattle.beat_entries.specs.declared.refusal.EntryRefusal.{EntryRefusal}
 use Rattle.beat_entries.specs.declared.refusal.EntryRefusal.TheVariants as refusal
 use Rattle.host_model.specs.Cause.{HasCause}
@@ -21,38 +21,40 @@ use Rattle.agent_core.specs.Notes.{IsDamaged}
 -- ---- what a fault of a store is for an agent
 
 -- a fault is known by what it is for the agent
-is-fault : (fault known : StoreFault) (answer is : AgentFault) → fault ≡ known → fault_of known ≡ Some is → fault_of fault ≡ Some answer → answer ≡ is
-is-fault fault known answer is same of e = same_Some answer is (sym e ∙ ap fault_of same ∙ of)
+is-fault : (fault known : StoreFault) (answer is : AgentFault) → fault ≡ known → fault_of known ≡ is → answer ≡ fault_of fault → answer ≡ is
+is-fault fault known answer is same of e = e ∙ ap fault_of same ∙ of
 
 -- where there is a database of beats
-pub disk-or-memory : (fault : StoreFault) (answer : AgentFault) → fault_of fault ≡ Some answer → (fault ≡ store.DiskFault) ⊎ (fault ≡ store.Memory)
+pub disk-or-memory : (fault : StoreFault) (answer : AgentFault) → answer ≡ fault_of fault → (fault ≡ store.DiskFault) ⊎ (fault ≡ store.Memory)
     → (answer ≡ DiskFault) ⊎ (answer ≡ Memory)
 disk-or-memory fault answer of (inl e) = inl (is-fault fault store.DiskFault answer DiskFault e refl of)
 disk-or-memory fault answer of (inr e) = inr (is-fault fault store.Memory answer Memory e refl of)
 
 -- a store that is not opened is so for this reason
-pub opens-said : (fault : StoreFault) → IsOpenFault fault → IsSome (fault_of fault)
-opens-said store.DiskFault is = refl
-opens-said store.NotADatabase is = refl
-opens-said (store.Damaged part) is = refl
-opens-said store.MomentOrder is = absurd is
-opens-said (store.Reopen cause) is = absurd is
-opens-said store.Exists is = absurd is
-opens-said store.Memory is = refl
-
-pub opens-unopened : (fault : StoreFault) (answer : AgentFault) → fault_of fault ≡ Some answer → IsOpenFault fault → IsUnopened answer
-opens-unopened store.DiskFault answer of is = subst IsUnopened (same_Some DiskFault answer of) tt
-opens-unopened store.NotADatabase answer of is = subst IsUnopened (same_Some NotADatabase answer of) tt
-opens-unopened (store.Damaged part) answer of is = subst IsUnopened (same_Some (Damaged part) answer of) is
-opens-unopened store.MomentOrder answer of is = absurd is
+pub opens-unopened : (fault : StoreFault) (answer : AgentFault) → answer ≡ fault_of fault → IsOpenFault fault → IsUnopened answer
+opens-unopened store.DiskFault answer of is = subst IsUnopened (sym of) tt
+opens-unopened store.NotADatabase answer of is = subst IsUnopened (sym of) tt
+opens-unopened (store.Damaged part) answer of is = subst IsUnopened (sym of) is
+opens-unopened (store.MomentOrder last) answer of is = absurd is
 opens-unopened (store.Reopen cause) answer of is = absurd is
 opens-unopened store.Exists answer of is = absurd is
-opens-unopened store.Memory answer of is = subst IsUnopened (same_Some Memory answer of) tt
+opens-unopened store.Memory answer of is = subst IsUnopened (sym of) tt
 
--- the fault of a store that is told so
+-- a fault that a store has too
+abbrev pub IsOfStore : AgentFault → Type 0
+IsOfStore (Refused why) = ⊥
+IsOfStore (Health why) = ⊥
+IsOfStore DiskFault = Unit {0}
+IsOfStore NotADatabase = Unit {0}
+IsOfStore (Damaged part) = Unit {0}
+IsOfStore (Reopen cause) = Unit {0}
+IsOfStore Exists = Unit {0}
+IsOfStore Memory = Unit {0}
+
+-- the fault of a store that is told so, where there is one
 abbrev pub store_told : AgentFault → StoreFault
-store_told (Refused why) = store.MomentOrder
-store_told (Health why) = store.MomentOrder
+store_told (Refused why) = store.Memory
+store_told (Health why) = store.Memory
 store_told DiskFault = store.DiskFault
 store_told NotADatabase = store.NotADatabase
 store_told (Damaged part) = store.Damaged part
@@ -60,23 +62,17 @@ store_told (Reopen cause) = store.Reopen cause
 store_told Exists = store.Exists
 store_told Memory = store.Memory
 
-pub told-by : (fault : StoreFault) (told : AgentFault) → fault_of fault ≡ Some told → fault ≡ store_told told
-told-by store.DiskFault told of = ap store_told (same_Some DiskFault told of)
-told-by store.NotADatabase told of = ap store_told (same_Some NotADatabase told of)
-told-by (store.Damaged part) told of = ap store_told (same_Some (Damaged part) told of)
-told-by store.MomentOrder told of = absurd (none-some told of)
-told-by (store.Reopen cause) told of = ap store_told (same_Some (Reopen cause) told of)
-told-by store.Exists told of = ap store_told (same_Some Exists told of)
-told-by store.Memory told of = ap store_told (same_Some Memory told of)
+pub told-by : (fault : StoreFault) (told : AgentFault) → told ≡ fault_of fault → IsOfStore told → fault ≡ store_told told
+told-by store.DiskFault told of is = ap store_told (sym of)
+told-by store.NotADatabase told of is = ap store_told (sym of)
+told-by (store.Damaged part) told of is = ap store_told (sym of)
+told-by (store.MomentOrder last) told of is = absurd (subst IsOfStore of is)
+told-by (store.Reopen cause) told of is = ap store_told (sym of)
+told-by store.Exists told of is = ap store_told (sym of)
+told-by store.Memory told of is = ap store_told (sym of)
 
--- ---- why a beat is not replayed
-pub replays-said : (fault : StoreFault) → IsReplayFault fault → IsSome (fault_of fault)
-replays-said fault (inl e) = subst (λ (f : StoreFault). IsSome (fault_of f)) (sym e) refl
-replays-said fault (inr (inl e)) = subst (λ (f : StoreFault). IsSome (fault_of f)) (sym e) refl
-replays-said fault (inr (inr reopens)) = subst (λ (f : StoreFault). IsSome (fault_of f)) (sym reopens.1) refl
-
--- the store was going
-pub replays-unreplayed : (before : Option Why) (fault : StoreFault) (answer : AgentFault) → before ≡ None → ReopensWith before fault → fault_of fault ≡ Some answer → IsReplayFault fault
+-- ---- why a beat is not replayed, where the store was going
+pub replays-unreplayed : (before : Option Why) (fault : StoreFault) (answer : AgentFault) → before ≡ None → ReopensWith before fault → answer ≡ fault_of fault → IsReplayFault fault
     → (answer ≡ Memory) ⊎ (answer ≡ Damaged 4)
 replays-unreplayed before fault answer going reopens of (inl e) = inl (is-fault fault store.Memory answer Memory e refl of)
 replays-unreplayed before fault answer going reopens of (inr (inl e)) = inr (is-fault fault (store.Damaged 4) answer (Damaged 4) e refl of)

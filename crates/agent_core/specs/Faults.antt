@@ -4,6 +4,7 @@ use Rattle.beat_entries.specs.declared.refusal.EntryRefusal.{EntryRefusal}
 use Rattle.beat_entries.specs.declared.refusal.EntryRefusal.TheVariants as refusal
 use Rattle.health_config.specs.declared.fault.ConfigFault.{ConfigFault}
 use Rattle.history.specs.declared.fault.BlockFault.{BlockFault}
+use Rattle.history.specs.declared.fault.BlockFault.TheVariants as block
 use Rattle.store_core.specs.declared.fault.StoreFault.{StoreFault}
 use Rattle.store_core.specs.declared.fault.StoreFault.TheVariants as store
 use Rattle.store_core.specs.declared.fault.Why.{Why}
@@ -11,16 +12,15 @@ use Rattle.store_core.specs.declared.fault.Why.TheVariants as why
 use Rattle.agent_core.specs.declared.fault.AgentFault.{AgentFault}
 use Rattle.agent_core.specs.declared.fault.AgentFault.TheVariants.{Refused, Health, DiskFault, NotADatabase, Damaged, Reopen, Exists, Memory}
 
--- What a fault of its store is for an agent. A store that refuses a moment never comes to it, since an agent
--- tests the moment before.
-abbrev pub fault_of : StoreFault → Option AgentFault
-fault_of store.DiskFault = Some DiskFault
-fault_of store.NotADatabase = Some NotADatabase
-fault_of (store.Damaged part) = Some (Damaged part)
-fault_of store.MomentOrder = None
-fault_of (store.Reopen cause) = Some (Reopen cause)
-fault_of store.Exists = Some Exists
-fault_of store.Memory = Some Memory
+-- what a fault of its store is for an agent
+abbrev pub fault_of : StoreFault → AgentFault
+fault_of store.DiskFault = DiskFault
+fault_of store.NotADatabase = NotADatabase
+fault_of (store.Damaged part) = Damaged part
+fault_of (store.MomentOrder last) = Refused (block.MomentOrder last)
+fault_of (store.Reopen cause) = Reopen cause
+fault_of store.Exists = Exists
+fault_of store.Memory = Memory
 
 -- what it is for an agent that an entry of its store was not taken
 abbrev pub unread : EntryRefusal → AgentFault

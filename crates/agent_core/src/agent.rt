@@ -38,7 +38,7 @@ mod copies;
 mod questions;
 
 use crate::alarming::{Stepping, follow};
-use crate::fault::{AgentFault, store_fault};
+use crate::fault::AgentFault;
 use crate::keeping::{add, add_health, defines_some, make_room};
 use crate::left::Left;
 use crate::replaying::{open_store, replay_all};
@@ -129,7 +129,7 @@ impl Agent {
                 count: 0,
                 fault: None,
             }),
-            Err(fault) => Err(store_fault(fault)),
+            Err(fault) => Err(AgentFault::from(fault)),
         }
     }
 

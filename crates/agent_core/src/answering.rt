@@ -12,7 +12,7 @@ ghost use Rattle.store_core.specs.View.{points_of};
 ghost use Rattle.tier_settings.specs.Limits.{widths};
 ghost use Rattle.agent_core.specs.Answers.{kept_of_history, reply_of, reply_to, tier_beats};
 
-use crate::fault::{AgentFault, store_fault};
+use crate::fault::AgentFault;
 use chart_registry::Registry;
 use fixed_num::Text;
 use host_model::Host;
@@ -113,6 +113,6 @@ pub(crate) fn kept<H: Host>(store: &mut Store, host: &mut H) -> Result<Kept, Age
 {
     match store.kept(host) {
         Ok(kept) => Ok(kept),
-        Err(fault) => Err(store_fault(fault)),
+        Err(fault) => Err(AgentFault::from(fault)),
     }
 }

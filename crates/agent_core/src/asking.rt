@@ -27,7 +27,7 @@ ghost use Rattle.agent_core.specs.Copies.{data_of_history, names_of, sent_beat, 
 ghost use Rattle.agent_core.specs.Stands.{HoldsHistory};
 ghost use Rattle.agent_core.specs.Rules.{HasLimits};
 
-use crate::fault::{AgentFault, store_fault};
+use crate::fault::AgentFault;
 use crate::used::{placed_beats, used_names, used_series};
 use chart_registry::Registry;
 use host_model::Host;
@@ -197,6 +197,6 @@ pub(crate) fn answer<H: Host>(
             Ok(answer) => Ok(answer),
             Err(_) => Err(AgentFault::Memory),
         },
-        Err(fault) => Err(store_fault(fault)),
+        Err(fault) => Err(AgentFault::from(fault)),
     }
 }

@@ -1,4 +1,4 @@
-ghost use Rattle.std.specs.Prelude.{◌≡◌, Some, IsSome};
+ghost use Rattle.std.specs.Prelude.{◌≡◌};
 ghost use Rattle.agent_core.specs.Faults.{fault_of, unread};
 ghost use Rattle.agent_core.specs.declared.fault.AgentFault.TheVariants.{Memory};
 
@@ -87,18 +87,18 @@ impl From<EntryRefusal> for AgentFault {
     }
 }
 
-/// What a fault of its store is for an agent. The store refuses no moment, since the agent tests it before.
-pub(crate) fn store_fault(fault: StoreFault) -> AgentFault
-    requires { IsSome (fault_of fault) }
-    ensures { fault_of fault ≡ Some result }
-{
-    match fault {
-        StoreFault::DiskFault => AgentFault::DiskFault,
-        StoreFault::NotADatabase => AgentFault::NotADatabase,
-        StoreFault::Damaged(part) => AgentFault::Damaged(part),
-        StoreFault::MomentOrder => unreachable!(),
-        StoreFault::Reopen(cause) => AgentFault::Reopen(cause),
-        StoreFault::Exists => AgentFault::Exists,
-        StoreFault::Memory => AgentFault::Memory,
+impl From<StoreFault> for AgentFault {
+    ghost from_gives = { λ fault given. given ≡ fault_of fault };
+
+    fn from(fault: StoreFault) -> AgentFault {
+        match fault {
+            StoreFault::DiskFault => AgentFault::DiskFault,
+            StoreFault::NotADatabase => AgentFault::NotADatabase,
+            StoreFault::Damaged(part) => AgentFault::Damaged(part),
+            StoreFault::MomentOrder(last) => AgentFault::Refused(BlockFault::MomentOrder(last)),
+            StoreFault::Reopen(cause) => AgentFault::Reopen(cause),
+            StoreFault::Exists => AgentFault::Exists,
+            StoreFault::Memory => AgentFault::Memory,
+        }
     }
 }

@@ -28,7 +28,7 @@ ghost use Rattle.agent_core.specs.Notes.{names_series};
 ghost use Rattle.agent_core.specs.Replay.{HasSeenBeat, HasSeenCopy, HasTakenRows};
 ghost use Rattle.agent_core.specs.Rules.{HasLimits};
 
-use crate::fault::{AgentFault, store_fault};
+use crate::fault::AgentFault;
 use crate::last_seen::{see_collected, see_copied};
 use crate::left::{Left, Role};
 use crate::points::stored_points;
@@ -115,7 +115,7 @@ pub(crate) fn make_room<H: Host>(
     let side = write_left(alloc, left, store.floor(0))?;
     match store.checkpoint(host, side) {
         Ok(()) => Ok(()),
-        Err(fault) => Err(store_fault(fault)),
+        Err(fault) => Err(AgentFault::from(fault)),
     }
 }
 
@@ -152,7 +152,7 @@ pub(crate) fn commit<H: Host>(
 {
     match store.commit(host, kept) {
         Ok(()) => Ok(()),
-        Err(fault) => Err(store_fault(fault)),
+        Err(fault) => Err(AgentFault::from(fault)),
     }
 }
 

@@ -23,7 +23,7 @@ ghost use Rattle.agent_core.specs.Notes.{beats_go_on, left_after, noted_in, Note
 ghost use Rattle.agent_core.specs.Replay.{HasTaken, IsAtPrefix, IsReplaying};
 
 use crate::alarming::follow;
-use crate::fault::{AgentFault, store_fault};
+use crate::fault::AgentFault;
 use crate::left::Left;
 use crate::notes::replay_beat;
 use host_model::Host;
@@ -65,7 +65,7 @@ pub(crate) fn open_store<H: Host>(alloc: Global, host: &mut H) -> Result<Store, 
 {
     match Store::open(alloc, host) {
         Ok(store) => Ok(store),
-        Err(fault) => Err(store_fault(fault)),
+        Err(fault) => Err(AgentFault::from(fault)),
     }
 }
 
@@ -92,7 +92,7 @@ fn next_beat<H: Host>(store: &mut Store, _host: &mut H) -> Result<Option<Beat>, 
 {
     match store.replay() {
         Ok(next) => Ok(next),
-        Err(fault) => Err(store_fault(fault)),
+        Err(fault) => Err(AgentFault::from(fault)),
     }
 }
 

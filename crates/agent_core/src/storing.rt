@@ -302,7 +302,8 @@ fn add_beats<H: Host>(
         ≡ numbered_charts left.old.registry (definitions_in message.now.names) }
     requires dimensions { numbers.now.definitions.dimensions
         ≡ numbered_dimensions left.old.registry (definitions_in message.now.names) }
-    requires within { IsWithinLimits (defining numbers.now.definitions.charts numbers.now.definitions.dimensions) }
+    requires within { IsWithinLimits
+        (defining numbers.now.definitions.charts numbers.now.definitions.dimensions) }
     requires canonical { is_collected_canonical
         (defining numbers.now.definitions.charts numbers.now.definitions.dimensions) ≡ true }
     requires series { numbers.now.series.items
@@ -451,10 +452,10 @@ fn define(
         (λ numbers. numbers.definitions.charts ≡ numbered_charts registry.new defs.now) }
     ensures numbered_dimensions { IfOk result
         (λ numbers. numbers.definitions.dimensions ≡ numbered_dimensions registry.new defs.now) }
-    ensures within { IfOk result
-        (λ numbers. IsWithinLimits (defining numbers.definitions.charts numbers.definitions.dimensions)) }
-    ensures canonical { IfOk result (λ numbers.
-        is_collected_canonical (defining numbers.definitions.charts numbers.definitions.dimensions) ≡ true) }
+    ensures within { IfOk result (λ numbers.
+        IsWithinLimits (defining numbers.definitions.charts numbers.definitions.dimensions)) }
+    ensures canonical { IfOk result (λ numbers. is_collected_canonical
+        (defining numbers.definitions.charts numbers.definitions.dimensions) ≡ true) }
     ensures series { IfOk result
         (λ numbers. numbers.series.items ≡ named_series registry.new names.now) }
     ensures charts { OnOk result (AreApart same_chart registry.new.charts) }

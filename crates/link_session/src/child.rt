@@ -45,13 +45,12 @@ impl Child {
         ensures cause { HasCause (L.faults link.old) (L.faults link.new)
             (IsErrOf result SessionFault.LinkFault) }
     {
-        match agent.data(host, ask) {
-            Ok(Some(message)) => {
+        match agent.data(host, ask)? {
+            Some(message) => {
                 self.last = Some(message.upto);
                 answer_with(self.alloc, link, &Frame::Data(message), Flow::GoesOn)
             }
-            Ok(None) => answer_with(self.alloc, link, &Frame::Bye(DONE), Flow::Done),
-            Err(fault) => Err(SessionFault::Agent(fault)),
+            None => answer_with(self.alloc, link, &Frame::Bye(DONE), Flow::Done),
         }
     }
 

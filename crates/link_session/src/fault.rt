@@ -57,6 +57,17 @@ impl From<AllocError> for SessionFault {
     }
 }
 
+impl From<AgentFault> for SessionFault {
+    ghost use Rattle.std.specs.Prelude.{◌≡◌};
+    ghost use Rattle.link_session.specs.declared.fault.SessionFault.TheVariants.{Agent};
+
+    ghost from_gives = { λ fault given. given ≡ Agent fault };
+
+    fn from(fault: AgentFault) -> SessionFault {
+        SessionFault::Agent(fault)
+    }
+}
+
 /// What a refusal of a reader is for a session.
 pub(crate) fn reading_fault(fault: FrameFault) -> SessionFault
     ensures { result ≡ reading_fault fault }

@@ -44,9 +44,7 @@ fn tell_stored<H: Host>(alloc: Global, host: &mut H, reply: &Reply) -> Result<()
         (IsErrOf result SessionFault.TellFault) }
     ensures disk { (H.seen host.new).disk_faults ≡ (H.seen host.old).disk_faults }
 {
-    let Ok(text) = write_reply(alloc, reply) else {
-        return Err(SessionFault::Memory);
-    };
+    let text = write_reply(alloc, reply)?;
     match host.tell(text.as_str().as_bytes()) {
         Ok(()) => Ok(()),
         Err(_) => Err(SessionFault::TellFault),
@@ -156,10 +154,7 @@ impl Parent {
         ensures cause { HasCause (L.faults link.old) (L.faults link.new)
             (IsErrOf result SessionFault.LinkFault) }
     {
-        let (verdict, reply) = match agent.take(host, message) {
-            Ok(taken) => taken,
-            Err(fault) => return Err(SessionFault::Agent(fault)),
-        };
+        let (verdict, reply) = agent.take(host, message)?;
         match verdict {
             Verdict::Stored => self.have(agent, host, link, &reply),
             Verdict::Old => Ok(Flow::GoesOn),

@@ -31,6 +31,7 @@ mod random;
 #[cfg(test)]
 mod replaced_crashes;
 #[cfg(test)]
+mod sealed_crashes;
 mod stored;
 #[cfg(test)]
 mod usage;

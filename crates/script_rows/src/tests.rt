@@ -1,5 +1,5 @@
-//! The script, and the sweeps of its commands, each with how many crashes it is to have: one for each of its calls that
-//! is refused, and one where none is.
+//! The script, and the sweeps of its commands, each with how many crashes it has at the least: one for each of its calls
+//! that is refused, and one where none is.
 
 use crate::files::host_before;
 use crate::places::Place;
@@ -8,10 +8,13 @@ use crate::sweeps::sweep;
 use std::alloc::Global;
 use std::test::Fail;
 
-/// Whether so many crashes of a command are tried with each of what a crash may keep, and all are sound.
+/// Whether at least so many crashes of a command are tried with each of what a crash may keep, and all are sound.
 fn is_sound(alloc: Global, place: &Place, crashes: u64) -> Result<(), Fail> {
     let seen = sweep(alloc, place)?;
-    if seen == [(crashes, None), (crashes, None), (crashes, None)] {
+    if seen
+        .iter()
+        .all(|(tried, wrong)| *tried >= crashes && wrong.is_none())
+    {
         return Ok(());
     }
     Err(Fail::new(format!(in alloc; "{seen:?}")?))
@@ -32,13 +35,13 @@ fn each_command_of_the_script_ends_as_it_should(rt: HostRuntime) -> Result<(), F
 #[test]
 fn the_child_of_the_session(rt: HostRuntime) -> Result<(), Fail> {
     let place = child(rt.alloc())?;
-    is_sound(rt.alloc(), &place, 0)
+    is_sound(rt.alloc(), &place, 10)
 }
 
 #[test]
 fn its_parent(rt: HostRuntime) -> Result<(), Fail> {
     let place = parent(rt.alloc())?;
-    is_sound(rt.alloc(), &place, 0)
+    is_sound(rt.alloc(), &place, 10)
 }
 
 #[test]
@@ -128,7 +131,7 @@ fn command_34(rt: HostRuntime) -> Result<(), Fail> {
 
 #[test]
 fn command_37(rt: HostRuntime) -> Result<(), Fail> {
-    is_sound_at(rt.alloc(), 37, 3619, 0)
+    is_sound_at(rt.alloc(), 37, 3619, 200)
 }
 
 #[test]
@@ -158,7 +161,7 @@ fn command_44(rt: HostRuntime) -> Result<(), Fail> {
 
 #[test]
 fn command_46(rt: HostRuntime) -> Result<(), Fail> {
-    is_sound_at(rt.alloc(), 46, 3855, 0)
+    is_sound_at(rt.alloc(), 46, 3855, 200)
 }
 
 #[test]
@@ -168,5 +171,5 @@ fn command_49(rt: HostRuntime) -> Result<(), Fail> {
 
 #[test]
 fn command_52(rt: HostRuntime) -> Result<(), Fail> {
-    is_sound_at(rt.alloc(), 52, 7275, 0)
+    is_sound_at(rt.alloc(), 52, 7275, 200)
 }

@@ -220,7 +220,7 @@ fn there_is_one_database_on_a_disk(rt: HostRuntime) -> Result<(), Fail> {
 fn the_moments_of_beats_rise(rt: HostRuntime) -> Result<(), Fail> {
     let mut host = new_host(rt.alloc())?;
     let answer = made(rt.alloc(), &mut host, &[(60, 1), (60, 1)]).err();
-    assert_eq!(rt; answer, Some(StoreFault::MomentOrder));
+    assert_eq!(rt; answer, Some(StoreFault::MomentOrder(60)));
     Ok(())
 }
 
@@ -255,4 +255,40 @@ fn a_checkpoint_keeps_what_beats_left(rt: HostRuntime) -> Result<(), Fail> {
     let mut host = new_host(rt.alloc())?;
     let mut store = made_again(rt.alloc(), &mut host, NINE.as_slice())?;
     check_nine(&rt, &mut store, &mut host)
+}
+
+/// Makes a database whose only beat has a 42 at the second 60, and a checkpoint of it.
+fn one_in_a_checkpoint(alloc: Global, host: &mut MemoryHost) -> Result<(), StoreFault> {
+    let mut store = create_with(alloc, host, [MOST, MOST, MOST])?;
+    add(alloc, &mut store, host, &[(60, 42)])?;
+    let Ok(side) = side_of(alloc, store.count()) else {
+        return Err(StoreFault::Memory);
+    };
+    store.checkpoint(host, side)
+}
+
+/// Checks that this beat is all that is kept.
+fn check_one(rt: &impl Abort, store: &mut Store, host: &mut MemoryHost) -> Result<(), Fail> {
+    let kept = store.kept(host)?;
+    assert_eq!(rt; [kept.before, kept.beats.len() as u64], [0, 1]);
+    for beat in kept.beats.as_slice() {
+        let points = [KeptPoint {
+            series: 0,
+            word: 0x2940_1640,
+        }];
+        assert_eq!(rt; beat.moment, 60);
+        assert_eq!(rt; beat.points.as_slice(), points.as_slice());
+    }
+    Ok(())
+}
+
+#[test]
+fn a_beat_behind_which_a_checkpoint_was_made(rt: HostRuntime) -> Result<(), Fail> {
+    let mut host = new_host(rt.alloc())?;
+    one_in_a_checkpoint(rt.alloc(), &mut host)?;
+    let mut store = open(rt.alloc(), &mut host)?;
+    assert_eq!(rt; store.count(), 1);
+    let next = store.replay()?;
+    assert!(rt; next.is_none());
+    check_one(&rt, &mut store, &mut host)
 }

@@ -11,7 +11,7 @@ files_fault : StoreFault → FilesFault
 files_fault DiskFault = files.DiskFault
 files_fault NotADatabase = files.NotADatabase
 files_fault (Damaged part) = files.Damaged part
-files_fault MomentOrder = files.Memory
+files_fault (MomentOrder last) = files.Memory
 files_fault (Reopen cause) = files.Memory
 files_fault Exists = files.Exists
 files_fault Memory = files.Memory
@@ -33,7 +33,7 @@ pub read-whole : (fault : StoreFault) → IsReadFault fault → ((part : ℕ) �
 read-whole DiskFault is whole = absurd is
 read-whole NotADatabase is whole = absurd is
 read-whole (Damaged part) is whole = absurd (whole part refl)
-read-whole MomentOrder is whole = absurd is
+read-whole (MomentOrder last) is whole = absurd is
 read-whole (Reopen cause) is whole = absurd is
 read-whole Exists is whole = absurd is
 read-whole Memory is whole = inr refl

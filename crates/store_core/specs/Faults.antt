@@ -1,5 +1,5 @@
 -- The faults of each call of a store, and what a fault leaves it as.
-use Rattle.std.specs.Prelude.{◌≡◌, ◌⊎◌, ◌≤◌, Option, Some, None, Result, Ok, Err}
+use Rattle.std.specs.Prelude.{◌≡◌, ◌⊎◌, ◌≤◌, ℕ, Option, Some, None, Result, Ok, Err}
 use Rattle.store_core.specs.declared.disk.fault.FilesFault.{FilesFault}
 use Rattle.store_core.specs.declared.disk.fault.FilesFault.TheVariants as files
 use Rattle.store_core.specs.declared.fault.StoreFault.{StoreFault}
@@ -12,7 +12,7 @@ abbrev pub cause_of : StoreFault → Option Why
 cause_of DiskFault = Some why.Disk
 cause_of NotADatabase = None
 cause_of (Damaged part) = None
-cause_of MomentOrder = None
+cause_of (MomentOrder last) = None
 cause_of (Reopen cause) = None
 cause_of Exists = None
 cause_of Memory = Some why.Memory
@@ -28,7 +28,7 @@ abbrev pub ReopensWith : Option Why → StoreFault → Type 0
 ReopensWith before DiskFault = before ≡ None
 ReopensWith before NotADatabase = before ≡ None
 ReopensWith before (Damaged part) = before ≡ None
-ReopensWith before MomentOrder = before ≡ None
+ReopensWith before (MomentOrder last) = before ≡ None
 ReopensWith before (Reopen cause) = before ≡ Some cause
 ReopensWith before Exists = before ≡ None
 ReopensWith before Memory = before ≡ None
@@ -45,7 +45,7 @@ abbrev pub IsOpenFault : StoreFault → Type 0
 IsOpenFault DiskFault = Unit {0}
 IsOpenFault NotADatabase = Unit {0}
 IsOpenFault (Damaged part) = (1 ≤ part) × (part ≤ 4)
-IsOpenFault MomentOrder = ⊥
+IsOpenFault (MomentOrder last) = ⊥
 IsOpenFault (Reopen cause) = ⊥
 IsOpenFault Exists = ⊥
 IsOpenFault Memory = Unit {0}
@@ -55,7 +55,7 @@ abbrev pub IsReadFault : StoreFault → Type 0
 IsReadFault DiskFault = ⊥
 IsReadFault NotADatabase = ⊥
 IsReadFault (Damaged part) = (2 ≤ part) × (part ≤ 4)
-IsReadFault MomentOrder = ⊥
+IsReadFault (MomentOrder last) = ⊥
 IsReadFault (Reopen cause) = ⊥
 IsReadFault Exists = ⊥
 IsReadFault Memory = Unit {0}
@@ -80,13 +80,13 @@ fault_of_files files.Memory = Memory
 abbrev pub IsCreateFault : StoreFault → Type 0
 IsCreateFault fault = (fault ≡ DiskFault) ⊎ (fault ≡ Exists) ⊎ (fault ≡ Memory)
 
--- why a beat is not added
-abbrev pub IsCommitFault : StoreFault → Type 0
-IsCommitFault fault = (fault ≡ DiskFault) ⊎ (fault ≡ MomentOrder) ⊎ (fault ≡ Memory) ⊎ ((cause : Why) × (fault ≡ Reopen cause))
+-- why a beat is not added to a store whose last moment is this
+abbrev pub IsCommitFault : ℕ → StoreFault → Type 0
+IsCommitFault last fault = (fault ≡ DiskFault) ⊎ (fault ≡ MomentOrder last) ⊎ (fault ≡ Memory) ⊎ ((cause : Why) × (fault ≡ Reopen cause))
 
 -- the faults that change nothing
 abbrev pub LeavesAll : StoreFault → Type 0
-LeavesAll fault = (fault ≡ MomentOrder) ⊎ ((cause : Why) × (fault ≡ Reopen cause))
+LeavesAll fault = ((last : ℕ) × (fault ≡ MomentOrder last)) ⊎ ((cause : Why) × (fault ≡ Reopen cause))
 
 -- the faults of one step
 abbrev pub IsStepFault : StoreFault → Type 0

@@ -27,8 +27,8 @@ impl Store {
     /// Adds a beat. At `Ok` it is stored, so that it is there after every later crash; at every
     /// moment a crash leaves what was stored with the new beat or without it.
     ///
-    /// `MomentOrder` exactly where the moment is at most the last one, and then nothing has
-    /// changed. After `DiskFault` or `Memory` the database must be opened again. `Memory` comes
+    /// `MomentOrder` with the last moment exactly where the moment is at most that, and then nothing
+    /// has changed. After `DiskFault` or `Memory` the database must be opened again. `Memory` comes
     /// before anything is written. Where there can be no later checkpoint, the answer past 2^60
     /// bytes of the journal is `Memory`.
     pub fn commit<H: Host>(&mut self, host: &mut H, beat: &Beat) -> Result<(), StoreFault>
@@ -47,7 +47,7 @@ impl Store {
 
         // Nothing has changed where the moment is not above the last one, or an earlier call was
         // refused.
-        ensures order { IsErrOf result StoreFault.MomentOrder
+        ensures order { IsErrOf result (StoreFault.MomentOrder self.old.tiers.last)
             ↔ ((self.old.fault ≡ None)
             × IsSomeAnd beat.now.moment (λ moment. moment ≤ self.old.tiers.last)) }
         ensures unchanged { IfErr result
@@ -59,7 +59,7 @@ impl Store {
         ensures leaves { OnErr result (self.new ≡ record self.old { fault = self.new.fault }) }
         ensures fault { self.new.fault ≡ fault_after self.old.fault result }
         ensures reopens { Reopens self.old.fault result }
-        ensures faults { IfErr result IsCommitFault }
+        ensures faults { IfErr result (IsCommitFault self.old.tiers.last) }
 
         // What a later call requires and answers.
         ensures ready { IsReady H.honest (H.seen host.new).past self.new }
@@ -83,8 +83,9 @@ impl Store {
         if let Some(why) = self.fault {
             return Err(StoreFault::Reopen(why));
         }
-        if !is_later(self.tiers.last(), beat.moment) {
-            return Err(StoreFault::MomentOrder);
+        let last = self.tiers.last();
+        if !is_later(last, beat.moment) {
+            return Err(StoreFault::MomentOrder(last));
         }
         match self.add(host, beat) {
             Ok(()) => Ok(()),

@@ -27,9 +27,9 @@ pub enum StoreFault {
     /// What is on the disk is no database: the part of its form with this number does not hold.
     #[error("the database is damaged in part {0}")]
     Damaged(u32),
-    /// The moment of a beat is not above the last one.
-    #[error("the moment is not above the last one")]
-    MomentOrder,
+    /// The moment of a beat is not above the last one, which is this.
+    #[error("the moment is not above the last one, {0}")]
+    MomentOrder(u32),
     /// An earlier call failed so, and the database must be opened again.
     #[error("the database must be opened again: {0}")]
     Reopen(Why),
@@ -54,7 +54,7 @@ impl StoreFault {
             StoreFault::Memory => Some(Why::Memory),
             StoreFault::NotADatabase
             | StoreFault::Damaged(_)
-            | StoreFault::MomentOrder
+            | StoreFault::MomentOrder(_)
             | StoreFault::Reopen(_)
             | StoreFault::Exists => None,
         }

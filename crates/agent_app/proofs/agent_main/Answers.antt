@@ -1,6 +1,5 @@
 use Rattle.std.proofs.Common.{◌≡◌, ℕ, List, Ok, Option, Some, inr, refl, arith}
 use Rattle.host_model.specs.Seen.{Seen}
-use Rattle.agent_core.specs.Gaps.{side_share}
 use Rattle.link_session.specs.Session.{link_seen, LinkSeen}
 use Rattle.agent_app.specs.declared.command.Command.TheVariants.{Collect, Convert, Health, Log, New, Query, Receive, Run, Send}
 use Rattle.agent_app.specs.Collect.{collector_of, outside_of, Outside}
@@ -85,7 +84,7 @@ returns-in-Ok-Some-New-clause-bound g c h =
     let host' : Seen = g.H.Host.seen c.new.new.host in
     let is : c.read.result ≡ Ok (Some (New c.in-Ok-Some-New.plan)) = cc in
     stays-as c.read.result c.args.words.now (Some (New c.in-Ok-Some-New.plan)) host.past host'.past is c.read.ensures.command
-    (let set = settings_for c.in-Ok-Some-New.plan in c.new.ensures.bound (side_share set) (omega arith) h)
+    (λ limit fits. c.new.ensures.bound limit (omega (arith, fits)) h)
 
 pub returns-in-Ok-Some-Query-clause-bound : goal.returns-in-Ok-Some-Query-clause-bound
 returns-in-Ok-Some-Query-clause-bound g c h =

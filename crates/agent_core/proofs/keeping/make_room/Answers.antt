@@ -41,7 +41,7 @@ returns-in-Ok-clause-done g c true_host set h holds by =
 pub returns-in-Err-clause-keeps : goal.returns-in-Err-clause-keeps
 returns-in-Err-clause-keeps g c =
     let did = c.in-Err.ensures in
-    checkpoint-failed g.H.Host.honest (g.H.Host.seen c.args.host.now) (g.H.Host.seen c.checkpoint.new.host) c.args.store.now c.checkpoint.new.self c.in-Err.fault c.store_fault.result c.store_fault.ensures
+    checkpoint-failed g.H.Host.honest (g.H.Host.seen c.args.host.now) (g.H.Host.seen c.checkpoint.new.host) c.args.store.now c.checkpoint.new.self c.in-Err.fault c.from.result c.from.ensures
     did.faults did.reopens c.requires.going did.ready c.requires.replayed did.waiting did.settings did.cause did.only_here did.output
 
 pub returns-then-not-due-clause-bound : goal.returns-then-not-due-clause-bound

@@ -1,23 +1,20 @@
-use Rattle.std.proofs.Common.{Err, Some, sym, ap, subst, ◌∙◌}
+use Rattle.std.proofs.Common.{Err, sym, ap, subst, ◌∙◌}
 use Rattle.store_core.specs.Store.{IsReady}
 use Rattle.store_core.proofs.FollowReplay.{ready_replayed}
 use Rattle.agent_core.specs.declared.fault.AgentFault.TheVariants.{Damaged}
-use Rattle.agent_core.proofs.OpenFaults.{replays-memory, replays-said, replays-unreplayed, told-by}
+use Rattle.agent_core.proofs.OpenFaults.{replays-memory, replays-unreplayed, told-by}
 use Rattle.agent_core.proofs.ReadyLemmas.{ready-leaves}
 use Rattle.agent_core.proofs.replaying.next_beat.Goals as goal
 
-pub store_fault-requires : goal.store_fault-requires
-store_fault-requires g c = replays-said c.in-Err.fault c.in-Err.ensures.faults
-
 pub returns-in-Err-clause-faults : goal.returns-in-Err-clause-faults
 returns-in-Err-clause-faults g c =
-    replays-unreplayed c.args.store.now.fault c.in-Err.fault c.store_fault.result c.requires.going c.in-Err.ensures.reopens c.store_fault.ensures c.in-Err.ensures.faults
+    replays-unreplayed c.args.store.now.fault c.in-Err.fault c.from.result c.requires.going c.in-Err.ensures.reopens c.from.ensures c.in-Err.ensures.faults
 
 pub returns-in-Err-clause-whole : goal.returns-in-Err-clause-whole
 returns-in-Err-clause-whole g c past stored rest is_at =
-    replays-memory c.store_fault.result
-    (replays-unreplayed c.args.store.now.fault c.in-Err.fault c.store_fault.result c.requires.going c.in-Err.ensures.reopens c.store_fault.ensures c.in-Err.ensures.faults)
-    (λ damaged. c.replay.ensures.whole past stored rest is_at (c.in-Err.is ∙ ap Err (told-by c.in-Err.fault (Damaged 4) (c.store_fault.ensures ∙ ap Some damaged))))
+    replays-memory c.from.result
+    (replays-unreplayed c.args.store.now.fault c.in-Err.fault c.from.result c.requires.going c.in-Err.ensures.reopens c.from.ensures c.in-Err.ensures.faults)
+    (λ damaged. c.replay.ensures.whole past stored rest is_at (c.in-Err.is ∙ ap Err (told-by c.in-Err.fault (Damaged 4) (sym damaged ∙ c.from.ensures) tt)))
 
 pub returns-in-Ok-clause-ready : goal.returns-in-Ok-clause-ready
 returns-in-Ok-clause-ready g c past ready =

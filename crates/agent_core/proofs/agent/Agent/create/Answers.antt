@@ -62,8 +62,8 @@ returns-in-Err g c =
     let left = c.in_ok-left.ensures.left set in
     let is = c.in_ok-side.ensures.side set [] [] tt left (floor-none set) in
     let fault = c.in-Err.fault in
-    let told = c.store_fault.result in
-    let says = c.store_fault.ensures in
+    let told = c.from.result in
+    let says = c.from.ensures in
     record {
       any_moment = λ true_host. new_climbs set side c.requires is old new (c.create.ensures.any_moment true_host);
       created = tt;

@@ -1,4 +1,5 @@
 use Rattle.std.proofs.Common.{Ok, Err, Result, inl, inr, refl, subst}
+use Rattle.std.proofs.lemmas.Result.{err_from_is_err_and}
 use Rattle.replication.specs.declared.verdict.Verdict.{Verdict}
 use Rattle.replication.specs.declared.verdict.Verdict.TheVariants as verdict
 use Rattle.agent_core.specs.declared.fault.AgentFault.{AgentFault}
@@ -19,31 +20,33 @@ use Rattle.link_session.specs.Taking.{ParentEndsAtLater}
 use Rattle.link_session.proofs.TakingLemmas.{have-only, left-only, said-on}
 use Rattle.link_session.proofs.parent.Parent.take_data.Goals as goal
 
-pub returns-in-Err-clause-takes : goal.returns-in-Err-clause-takes
-returns-in-Err-clause-takes g c =
+pub returns-in_err-verdict-clause-takes : goal.returns-in_err-verdict-clause-takes
+returns-in_err-verdict-clause-takes g c =
     let host = g.H.Host.seen c.args.host.now in
     let middle = g.H.Host.seen c.take.new.host in
-    data-badly g.H.Host.honest host c.args.agent.now c.args.message.now middle c.take.new.self c.args.id c.in-Err.fault
-    (subst (λ (r : Result (Verdict × Reply) AgentFault). TakesData g.H.Host.honest host c.args.agent.now c.args.message.now r middle c.take.new.self) c.in-Err.is c.take.ensures) c.requires.form _
+    let error = err_from_is_err_and c.from_residual.result c.from_residual.ensures.1 in
+    rw (error.1, error.2)
+    (data-badly g.H.Host.honest host c.args.agent.now c.args.message.now middle c.take.new.self c.args.id c.in_err-verdict.field-0.0
+    (subst (λ (r : Result (Verdict × Reply) AgentFault). TakesData g.H.Host.honest host c.args.agent.now c.args.message.now r middle c.take.new.self) c.in_err-verdict.was c.take.ensures) c.requires.form _)
 
 pub returns-in-Stored-clause-takes : goal.returns-in-Stored-clause-takes
 returns-in-Stored-clause-takes g c =
     let host = g.H.Host.seen c.args.host.now in
     let middle = g.H.Host.seen c.take.new.host in
-    let reply = c.in-Ok.taken.1 in
+    let reply = c.in_ok-verdict.reply in
     data-stored g.H.Host.honest host c.args.agent.now c.args.message.now middle c.take.new.self c.args.id reply
     (subst (λ (v : Verdict). TakesData g.H.Host.honest host c.args.agent.now c.args.message.now (Ok (v, reply)) middle c.take.new.self) c.in-Stored.is
-    (subst (λ (r : Result (Verdict × Reply) AgentFault). TakesData g.H.Host.honest host c.args.agent.now c.args.message.now r middle c.take.new.self) c.in-Ok.is c.take.ensures))
+    (subst (λ (r : Result (Verdict × Reply) AgentFault). TakesData g.H.Host.honest host c.args.agent.now c.args.message.now r middle c.take.new.self) c.in_ok-verdict.was c.take.ensures))
     c.have.result (g.H.Host.seen c.have.new.host) _ _ c.have.ensures.says c.requires.form c.have.ensures.tells c.have.ensures.disk
 
 pub returns-in-Old-clause-takes : goal.returns-in-Old-clause-takes
 returns-in-Old-clause-takes g c =
     let host = g.H.Host.seen c.args.host.now in
     let middle = g.H.Host.seen c.take.new.host in
-    let reply = c.in-Ok.taken.1 in
+    let reply = c.in_ok-verdict.reply in
     data-left g.H.Host.honest host c.args.agent.now c.args.message.now middle c.take.new.self c.args.id verdict.Old reply
     (subst (λ (v : Verdict). TakesData g.H.Host.honest host c.args.agent.now c.args.message.now (Ok (v, reply)) middle c.take.new.self) c.in-Old.is
-    (subst (λ (r : Result (Verdict × Reply) AgentFault). TakesData g.H.Host.honest host c.args.agent.now c.args.message.now r middle c.take.new.self) c.in-Ok.is c.take.ensures))
+    (subst (λ (r : Result (Verdict × Reply) AgentFault). TakesData g.H.Host.honest host c.args.agent.now c.args.message.now r middle c.take.new.self) c.in_ok-verdict.was c.take.ensures))
     refl (Ok GoesOn) _ _ c.requires.ready tt
     (λ same set h is_of. record { same = refl; silent = refl; does = silent-does (nothing (copies c.args.id h)) (copies c.args.id h) (Ok GoesOn) (g.L.Link.sent c.args.link.now) refl refl refl; unsaid = λ e. cc })
 
@@ -51,10 +54,10 @@ pub returns-in-Ahead-clause-takes : goal.returns-in-Ahead-clause-takes
 returns-in-Ahead-clause-takes g c =
     let host = g.H.Host.seen c.args.host.now in
     let middle = g.H.Host.seen c.take.new.host in
-    let reply = c.in-Ok.taken.1 in
+    let reply = c.in_ok-verdict.reply in
     data-left g.H.Host.honest host c.args.agent.now c.args.message.now middle c.take.new.self c.args.id verdict.Ahead reply
     (subst (λ (v : Verdict). TakesData g.H.Host.honest host c.args.agent.now c.args.message.now (Ok (v, reply)) middle c.take.new.self) c.in-Ahead.is
-    (subst (λ (r : Result (Verdict × Reply) AgentFault). TakesData g.H.Host.honest host c.args.agent.now c.args.message.now r middle c.take.new.self) c.in-Ok.is c.take.ensures))
+    (subst (λ (r : Result (Verdict × Reply) AgentFault). TakesData g.H.Host.honest host c.args.agent.now c.args.message.now r middle c.take.new.self) c.in_ok-verdict.was c.take.ensures))
     refl c.ask.result _ _ c.requires.ready (said-refusing _ _ c.ask.result _ _ c.ask.ensures.says)
     (λ same set h is_of. still-asks g.H.Host.honest host c.args.agent.now set h (takes_by set c.args.id h c.args.message.now verdict.Ahead) c.args.id c.ask.result _ _ is_of refl
     (subst (λ (a : AgentState). SaysThen (frame.Ask (record { child = c.args.id; last = a.last })) GoesOn c.ask.result (g.L.Link.sent c.args.link.now) (g.L.Link.sent c.ask.new.link)) same c.ask.ensures.says))
@@ -66,11 +69,11 @@ pub returns-clause-takes : goal.returns-clause-takes
 returns-clause-takes g c =
     let host = g.H.Host.seen c.args.host.now in
     let middle = g.H.Host.seen c.take.new.host in
-    let reply = c.in-Ok.taken.1 in
+    let reply = c.in_ok-verdict.reply in
     let other = verdict.WrongChild c.in-WrongChild.kept c.in-WrongChild.came in
     data-left g.H.Host.honest host c.args.agent.now c.args.message.now middle c.take.new.self c.args.id other reply
     (subst (λ (v : Verdict). TakesData g.H.Host.honest host c.args.agent.now c.args.message.now (Ok (v, reply)) middle c.take.new.self) c.in-WrongChild.is
-    (subst (λ (r : Result (Verdict × Reply) AgentFault). TakesData g.H.Host.honest host c.args.agent.now c.args.message.now r middle c.take.new.self) c.in-Ok.is c.take.ensures))
+    (subst (λ (r : Result (Verdict × Reply) AgentFault). TakesData g.H.Host.honest host c.args.agent.now c.args.message.now r middle c.take.new.self) c.in_ok-verdict.was c.take.ensures))
     refl (Err c.leave.result) _ _ c.requires.ready (leaves-refusing _ _ c.leave.result _ _ c.leave.ensures.leaves)
     (λ same set h is_of. still-left h (takes_by set c.args.id h c.args.message.now other) (copies c.args.id h) _ c.leave.result _ _ refl refl c.leave.ensures.leaves)
 

@@ -1,4 +1,4 @@
-use Rattle.std.proofs.Common.{Ok, sym, ap, ◌∙◌}
+use Rattle.std.proofs.Common.{ℕ, Ok, sym, ap, ◌∙◌}
 use Rattle.std.specs.Result.{IsErrOf}
 use Rattle.host_model.specs.Moments.{begins}
 use Rattle.store_core.specs.declared.fault.StoreFault.{StoreFault}
@@ -17,12 +17,12 @@ returns-then-not-is_later-clause-any_moment g c h stored is_of =
 pub returns-then-not-is_later-clause-bound : goal.returns-then-not-is_later-clause-bound
 returns-then-not-is_later-clause-bound g c side numbered h within = begins within
 
-ok_no_err : IsErrOf {T = Unit {0}} {E = StoreFault} (Ok tt) MomentOrder → ⊥
-ok_no_err wrong = cc
+ok_no_err : (last : ℕ) → IsErrOf {T = Unit {0}} {E = StoreFault} (Ok tt) (MomentOrder last) → ⊥
+ok_no_err last wrong = cc
 
 pub returns-in-Ok-clause-order : goal.returns-in-Ok-clause-order
 returns-in-Ok-clause-order g c = (
-  λ wrong. absurd (ok_no_err wrong),
-  λ both. absurd (later_not_before c.last.result c.args.self.now.tiers.last c.args.beat.now.moment (c.last.ensures ∙ ap (λ (s : StoreState). s.tiers.last) c.self.view_is)
+  λ wrong. absurd (ok_no_err _ wrong),
+  λ both. absurd (later_not_before c.last-last.result c.args.self.now.tiers.last c.args.beat.now.moment (c.last-last.ensures ∙ ap (λ (s : StoreState). s.tiers.last) c.self.view_is)
       (sym c.if-not-is_later.ensures) both.1),
 )
