@@ -32,6 +32,7 @@ mod random;
 mod replaced_crashes;
 #[cfg(test)]
 mod sealed_crashes;
+#[cfg(test)]
 mod stored;
 #[cfg(test)]
 mod usage;
