@@ -38,9 +38,6 @@ const LAST_BEAT: &[u8] = b"\x0d\0\0\0\x02\x07\0\0\0\0\0\0\0\x2a\x1c\0\0\x05\0\0\
 /// A database of small quotas that is to be a copy.
 const PARENT: &[&str] = &["new", "8", "9", "1", "12", "1", "3", "1"];
 
-/// What it tells of it.
-const COPIED: &str = "STORED 9\n";
-
 /// The child behind the script. Its session leaves all as it was.
 pub fn child(alloc: Global) -> Result<Place, Fail> {
     let mut host = host_before(alloc, 59)?;
@@ -102,12 +99,15 @@ pub fn parent(alloc: Global) -> Result<Place, Fail> {
     let files = parent_files(alloc)?;
     let text = text_at(alloc, 7275)?;
     let heard = said_at_last(alloc, LAST_BEAT)?;
+    let none = left_by(alloc, &files, b"", text.as_str())?;
+    let all = left_by(alloc, &files, heard.as_slice(), text.as_str())?;
+    let told = String::from_str(alloc, all.told.as_str())?;
     let mut lefts = Vec::new(alloc);
-    lefts.push(left_by(alloc, &files, b"", text.as_str())?)?;
-    lefts.push(left_by(alloc, &files, heard.as_slice(), text.as_str())?)?;
+    lefts.push(none)?;
+    lefts.push(all)?;
     let wanted = Session {
         status: Status::Ok,
-        told: String::from_str(alloc, COPIED)?,
+        told,
         sent: LAST_BEAT.to_vec(alloc)?,
     };
     Ok(Place {

@@ -41,7 +41,7 @@ fn the_child_of_the_session(rt: HostRuntime) -> Result<(), Fail> {
 #[test]
 fn its_parent(rt: HostRuntime) -> Result<(), Fail> {
     let place = parent(rt.alloc())?;
-    is_sound(rt.alloc(), &place, 10)
+    is_sound(rt.alloc(), &place, 45)
 }
 
 #[test]
