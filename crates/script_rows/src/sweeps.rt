@@ -43,9 +43,10 @@ fn calls_of(alloc: Global, place: &Place) -> Result<u64, Fail> {
     Ok(calls)
 }
 
-/// Whether the call is among those that are refused: the first hundred, the last hundred, and every sixteenth.
+/// Whether the call is among those that are refused: the first and the last fifty, every thirty-second, and all of a
+/// command that makes no more than a hundred and fifty.
 fn is_swept(calls: u64, call: u64) -> bool {
-    call < 100 || call.saturating_add(100) > calls || call % 16 == 0
+    calls <= 150 || call < 50 || call.saturating_add(50) > calls || call % 32 == 0
 }
 
 /// The crashes where each call is refused in turn. Past the last none is, and the command ends as it should.
@@ -62,12 +63,7 @@ fn sweep_with(alloc: Global, place: &Place, calls: u64, keep: Keep) -> Result<Se
     Ok((crashes, None))
 }
 
-/// The crashes of a command, with each of what a crash may keep.
-pub fn sweep(alloc: Global, place: &Place) -> Result<[Seen; 3], Fail> {
-    let calls = calls_of(alloc, place)?;
-    Ok([
-        sweep_with(alloc, place, calls, Keep::All)?,
-        sweep_with(alloc, place, calls, Keep::None)?,
-        sweep_with(alloc, place, calls, Keep::Fill(255))?,
-    ])
+/// The crashes of a command with this kept.
+pub fn sweep(alloc: Global, place: &Place, keep: Keep) -> Result<Seen, Fail> {
+    sweep_with(alloc, place, calls_of(alloc, place)?, keep)
 }

@@ -5,25 +5,38 @@ use crate::files::host_before;
 use crate::places::Place;
 use crate::sessions::{child, parent};
 use crate::sweeps::sweep;
+use host_model::Keep;
 use std::alloc::Global;
 use std::test::Fail;
 
-/// Whether at least so many crashes of a command are tried with each of what a crash may keep, and all are sound.
-fn is_sound(alloc: Global, place: &Place, crashes: u64) -> Result<(), Fail> {
-    let seen = sweep(alloc, place)?;
-    if seen
-        .iter()
-        .all(|(tried, wrong)| *tried >= crashes && wrong.is_none())
-    {
+/// Whether at least so many crashes of a command are tried with this kept, and all are sound.
+fn is_sound(alloc: Global, place: &Place, keep: Keep, crashes: u64) -> Result<(), Fail> {
+    let seen = sweep(alloc, place, keep)?;
+    if seen.0 >= crashes && seen.1.is_none() {
         return Ok(());
     }
-    Err(Fail::new(format!(in alloc; "{seen:?}")?))
+    Err(Fail::new(format!(in alloc; "{keep:?}: {seen:?}")?))
 }
 
 /// The same of a command of the script, behind which a beat is stored at this moment.
+fn is_sound_with(
+    alloc: Global,
+    number: usize,
+    moment: u32,
+    keep: Keep,
+    crashes: u64,
+) -> Result<(), Fail> {
+    let place = Place::of(alloc, number, moment)?;
+    is_sound(alloc, &place, keep, crashes)
+}
+
+/// The same with each of what a crash may keep.
 fn is_sound_at(alloc: Global, number: usize, moment: u32, crashes: u64) -> Result<(), Fail> {
     let place = Place::of(alloc, number, moment)?;
-    is_sound(alloc, &place, crashes)
+    for keep in [Keep::All, Keep::None, Keep::Fill(255)] {
+        is_sound(alloc, &place, keep, crashes)?;
+    }
+    Ok(())
 }
 
 #[test]
@@ -33,15 +46,33 @@ fn each_command_of_the_script_ends_as_it_should(rt: HostRuntime) -> Result<(), F
 }
 
 #[test]
-fn the_child_of_the_session(rt: HostRuntime) -> Result<(), Fail> {
-    let place = child(rt.alloc())?;
-    is_sound(rt.alloc(), &place, 10)
+fn the_child_of_the_session_keeps_all(rt: HostRuntime) -> Result<(), Fail> {
+    is_sound(rt.alloc(), &child(rt.alloc())?, Keep::All, 10)
 }
 
 #[test]
-fn its_parent(rt: HostRuntime) -> Result<(), Fail> {
-    let place = parent(rt.alloc())?;
-    is_sound(rt.alloc(), &place, 45)
+fn the_child_of_the_session_keeps_none(rt: HostRuntime) -> Result<(), Fail> {
+    is_sound(rt.alloc(), &child(rt.alloc())?, Keep::None, 10)
+}
+
+#[test]
+fn the_child_of_the_session_fills(rt: HostRuntime) -> Result<(), Fail> {
+    is_sound(rt.alloc(), &child(rt.alloc())?, Keep::Fill(255), 10)
+}
+
+#[test]
+fn its_parent_keeps_all(rt: HostRuntime) -> Result<(), Fail> {
+    is_sound(rt.alloc(), &parent(rt.alloc())?, Keep::All, 45)
+}
+
+#[test]
+fn its_parent_keeps_none(rt: HostRuntime) -> Result<(), Fail> {
+    is_sound(rt.alloc(), &parent(rt.alloc())?, Keep::None, 45)
+}
+
+#[test]
+fn its_parent_fills(rt: HostRuntime) -> Result<(), Fail> {
+    is_sound(rt.alloc(), &parent(rt.alloc())?, Keep::Fill(255), 45)
 }
 
 #[test]
@@ -115,61 +146,181 @@ fn command_27(rt: HostRuntime) -> Result<(), Fail> {
 }
 
 #[test]
-fn command_29(rt: HostRuntime) -> Result<(), Fail> {
-    is_sound_at(rt.alloc(), 29, 3610, 36)
+fn command_29_keeps_all(rt: HostRuntime) -> Result<(), Fail> {
+    is_sound_with(rt.alloc(), 29, 3610, Keep::All, 36)
 }
 
 #[test]
-fn command_31(rt: HostRuntime) -> Result<(), Fail> {
-    is_sound_at(rt.alloc(), 31, 3610, 64)
+fn command_29_keeps_none(rt: HostRuntime) -> Result<(), Fail> {
+    is_sound_with(rt.alloc(), 29, 3610, Keep::None, 36)
 }
 
 #[test]
-fn command_34(rt: HostRuntime) -> Result<(), Fail> {
-    is_sound_at(rt.alloc(), 34, 3616, 61)
+fn command_29_fills(rt: HostRuntime) -> Result<(), Fail> {
+    is_sound_with(rt.alloc(), 29, 3610, Keep::Fill(255), 36)
 }
 
 #[test]
-fn command_37(rt: HostRuntime) -> Result<(), Fail> {
-    is_sound_at(rt.alloc(), 37, 3619, 200)
+fn command_31_keeps_all(rt: HostRuntime) -> Result<(), Fail> {
+    is_sound_with(rt.alloc(), 31, 3610, Keep::All, 64)
 }
 
 #[test]
-fn command_38(rt: HostRuntime) -> Result<(), Fail> {
-    is_sound_at(rt.alloc(), 38, 3626, 67)
+fn command_31_keeps_none(rt: HostRuntime) -> Result<(), Fail> {
+    is_sound_with(rt.alloc(), 31, 3610, Keep::None, 64)
 }
 
 #[test]
-fn command_40(rt: HostRuntime) -> Result<(), Fail> {
-    is_sound_at(rt.alloc(), 40, 3729, 97)
+fn command_31_fills(rt: HostRuntime) -> Result<(), Fail> {
+    is_sound_with(rt.alloc(), 31, 3610, Keep::Fill(255), 64)
 }
 
 #[test]
-fn command_42(rt: HostRuntime) -> Result<(), Fail> {
-    is_sound_at(rt.alloc(), 42, 3788, 71)
+fn command_34_keeps_all(rt: HostRuntime) -> Result<(), Fail> {
+    is_sound_with(rt.alloc(), 34, 3616, Keep::All, 61)
 }
 
 #[test]
-fn command_43(rt: HostRuntime) -> Result<(), Fail> {
-    is_sound_at(rt.alloc(), 43, 3795, 60)
+fn command_34_keeps_none(rt: HostRuntime) -> Result<(), Fail> {
+    is_sound_with(rt.alloc(), 34, 3616, Keep::None, 61)
 }
 
 #[test]
-fn command_44(rt: HostRuntime) -> Result<(), Fail> {
-    is_sound_at(rt.alloc(), 44, 3849, 60)
+fn command_34_fills(rt: HostRuntime) -> Result<(), Fail> {
+    is_sound_with(rt.alloc(), 34, 3616, Keep::Fill(255), 61)
 }
 
 #[test]
-fn command_46(rt: HostRuntime) -> Result<(), Fail> {
-    is_sound_at(rt.alloc(), 46, 3855, 200)
+fn command_37_keeps_all(rt: HostRuntime) -> Result<(), Fail> {
+    is_sound_with(rt.alloc(), 37, 3619, Keep::All, 120)
 }
 
 #[test]
-fn command_49(rt: HostRuntime) -> Result<(), Fail> {
-    is_sound_at(rt.alloc(), 49, 7209, 83)
+fn command_37_keeps_none(rt: HostRuntime) -> Result<(), Fail> {
+    is_sound_with(rt.alloc(), 37, 3619, Keep::None, 120)
 }
 
 #[test]
-fn command_52(rt: HostRuntime) -> Result<(), Fail> {
-    is_sound_at(rt.alloc(), 52, 7275, 200)
+fn command_37_fills(rt: HostRuntime) -> Result<(), Fail> {
+    is_sound_with(rt.alloc(), 37, 3619, Keep::Fill(255), 120)
+}
+
+#[test]
+fn command_38_keeps_all(rt: HostRuntime) -> Result<(), Fail> {
+    is_sound_with(rt.alloc(), 38, 3626, Keep::All, 67)
+}
+
+#[test]
+fn command_38_keeps_none(rt: HostRuntime) -> Result<(), Fail> {
+    is_sound_with(rt.alloc(), 38, 3626, Keep::None, 67)
+}
+
+#[test]
+fn command_38_fills(rt: HostRuntime) -> Result<(), Fail> {
+    is_sound_with(rt.alloc(), 38, 3626, Keep::Fill(255), 67)
+}
+
+#[test]
+fn command_40_keeps_all(rt: HostRuntime) -> Result<(), Fail> {
+    is_sound_with(rt.alloc(), 40, 3729, Keep::All, 97)
+}
+
+#[test]
+fn command_40_keeps_none(rt: HostRuntime) -> Result<(), Fail> {
+    is_sound_with(rt.alloc(), 40, 3729, Keep::None, 97)
+}
+
+#[test]
+fn command_40_fills(rt: HostRuntime) -> Result<(), Fail> {
+    is_sound_with(rt.alloc(), 40, 3729, Keep::Fill(255), 97)
+}
+
+#[test]
+fn command_42_keeps_all(rt: HostRuntime) -> Result<(), Fail> {
+    is_sound_with(rt.alloc(), 42, 3788, Keep::All, 71)
+}
+
+#[test]
+fn command_42_keeps_none(rt: HostRuntime) -> Result<(), Fail> {
+    is_sound_with(rt.alloc(), 42, 3788, Keep::None, 71)
+}
+
+#[test]
+fn command_42_fills(rt: HostRuntime) -> Result<(), Fail> {
+    is_sound_with(rt.alloc(), 42, 3788, Keep::Fill(255), 71)
+}
+
+#[test]
+fn command_43_keeps_all(rt: HostRuntime) -> Result<(), Fail> {
+    is_sound_with(rt.alloc(), 43, 3795, Keep::All, 60)
+}
+
+#[test]
+fn command_43_keeps_none(rt: HostRuntime) -> Result<(), Fail> {
+    is_sound_with(rt.alloc(), 43, 3795, Keep::None, 60)
+}
+
+#[test]
+fn command_43_fills(rt: HostRuntime) -> Result<(), Fail> {
+    is_sound_with(rt.alloc(), 43, 3795, Keep::Fill(255), 60)
+}
+
+#[test]
+fn command_44_keeps_all(rt: HostRuntime) -> Result<(), Fail> {
+    is_sound_with(rt.alloc(), 44, 3849, Keep::All, 60)
+}
+
+#[test]
+fn command_44_keeps_none(rt: HostRuntime) -> Result<(), Fail> {
+    is_sound_with(rt.alloc(), 44, 3849, Keep::None, 60)
+}
+
+#[test]
+fn command_44_fills(rt: HostRuntime) -> Result<(), Fail> {
+    is_sound_with(rt.alloc(), 44, 3849, Keep::Fill(255), 60)
+}
+
+#[test]
+fn command_46_keeps_all(rt: HostRuntime) -> Result<(), Fail> {
+    is_sound_with(rt.alloc(), 46, 3855, Keep::All, 120)
+}
+
+#[test]
+fn command_46_keeps_none(rt: HostRuntime) -> Result<(), Fail> {
+    is_sound_with(rt.alloc(), 46, 3855, Keep::None, 120)
+}
+
+#[test]
+fn command_46_fills(rt: HostRuntime) -> Result<(), Fail> {
+    is_sound_with(rt.alloc(), 46, 3855, Keep::Fill(255), 120)
+}
+
+#[test]
+fn command_49_keeps_all(rt: HostRuntime) -> Result<(), Fail> {
+    is_sound_with(rt.alloc(), 49, 7209, Keep::All, 83)
+}
+
+#[test]
+fn command_49_keeps_none(rt: HostRuntime) -> Result<(), Fail> {
+    is_sound_with(rt.alloc(), 49, 7209, Keep::None, 83)
+}
+
+#[test]
+fn command_49_fills(rt: HostRuntime) -> Result<(), Fail> {
+    is_sound_with(rt.alloc(), 49, 7209, Keep::Fill(255), 83)
+}
+
+#[test]
+fn command_52_keeps_all(rt: HostRuntime) -> Result<(), Fail> {
+    is_sound_with(rt.alloc(), 52, 7275, Keep::All, 120)
+}
+
+#[test]
+fn command_52_keeps_none(rt: HostRuntime) -> Result<(), Fail> {
+    is_sound_with(rt.alloc(), 52, 7275, Keep::None, 120)
+}
+
+#[test]
+fn command_52_fills(rt: HostRuntime) -> Result<(), Fail> {
+    is_sound_with(rt.alloc(), 52, 7275, Keep::Fill(255), 120)
 }
