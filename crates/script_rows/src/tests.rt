@@ -192,17 +192,17 @@ fn command_34_fills(rt: HostRuntime) -> Result<(), Fail> {
 
 #[test]
 fn command_37_keeps_all(rt: HostRuntime) -> Result<(), Fail> {
-    is_sound_with(rt.alloc(), 37, 3619, Keep::All, 120)
+    is_sound_with(rt.alloc(), 37, 3619, Keep::All, 100)
 }
 
 #[test]
 fn command_37_keeps_none(rt: HostRuntime) -> Result<(), Fail> {
-    is_sound_with(rt.alloc(), 37, 3619, Keep::None, 120)
+    is_sound_with(rt.alloc(), 37, 3619, Keep::None, 100)
 }
 
 #[test]
 fn command_37_fills(rt: HostRuntime) -> Result<(), Fail> {
-    is_sound_with(rt.alloc(), 37, 3619, Keep::Fill(255), 120)
+    is_sound_with(rt.alloc(), 37, 3619, Keep::Fill(255), 100)
 }
 
 #[test]
@@ -282,17 +282,17 @@ fn command_44_fills(rt: HostRuntime) -> Result<(), Fail> {
 
 #[test]
 fn command_46_keeps_all(rt: HostRuntime) -> Result<(), Fail> {
-    is_sound_with(rt.alloc(), 46, 3855, Keep::All, 120)
+    is_sound_with(rt.alloc(), 46, 3855, Keep::All, 100)
 }
 
 #[test]
 fn command_46_keeps_none(rt: HostRuntime) -> Result<(), Fail> {
-    is_sound_with(rt.alloc(), 46, 3855, Keep::None, 120)
+    is_sound_with(rt.alloc(), 46, 3855, Keep::None, 100)
 }
 
 #[test]
 fn command_46_fills(rt: HostRuntime) -> Result<(), Fail> {
-    is_sound_with(rt.alloc(), 46, 3855, Keep::Fill(255), 120)
+    is_sound_with(rt.alloc(), 46, 3855, Keep::Fill(255), 100)
 }
 
 #[test]
@@ -312,15 +312,15 @@ fn command_49_fills(rt: HostRuntime) -> Result<(), Fail> {
 
 #[test]
 fn command_52_keeps_all(rt: HostRuntime) -> Result<(), Fail> {
-    is_sound_with(rt.alloc(), 52, 7275, Keep::All, 120)
+    is_sound_with(rt.alloc(), 52, 7275, Keep::All, 100)
 }
 
 #[test]
 fn command_52_keeps_none(rt: HostRuntime) -> Result<(), Fail> {
-    is_sound_with(rt.alloc(), 52, 7275, Keep::None, 120)
+    is_sound_with(rt.alloc(), 52, 7275, Keep::None, 100)
 }
 
 #[test]
 fn command_52_fills(rt: HostRuntime) -> Result<(), Fail> {
-    is_sound_with(rt.alloc(), 52, 7275, Keep::Fill(255), 120)
+    is_sound_with(rt.alloc(), 52, 7275, Keep::Fill(255), 100)
 }
