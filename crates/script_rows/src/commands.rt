@@ -1,51 +1,29 @@
-//! The commands of the script, and what each tells. What is wanted was worked out by a plain model of the definitions:
-//! all beats, of which each answer filters those that it needs.
+//! The commands of the script but the last, and what each tells. What is wanted was worked out by a plain model of the
+//! definitions: all beats, of which each answer filters those that it needs.
 
-use crate::steps::{RUN, Step};
+use command_runs::{RUN, Step};
 use host_model::Status;
+use std::test::Fail;
 
-pub const HEALTH: &[&str] = &["health"];
+const HEALTH: &[&str] = &["health"];
 
 const LOG: &[&str] = &["log", "text"];
 
-/// The first that is swept stores two beats. The first of them seals a segment of points, and the
-/// second makes its checkpoint.
-pub const TWO_BEATS: Step = (
-    RUN,
-    "BEGIN t.c\nSET a = 70\nSET b = 1\nEND\nBEGIN t.d\nSET c = 2\nEND\nMOMENT 3430\n\
-    BEGIN t.c\nSET a = 20\nSET b = 9\nEND\nBEGIN t.d\nSET c = 901\nEND\nMOMENT 3485\n",
-    "STORED 5\nEVENT 6 3430 t.c high CLEAR WARNING 70 3440\n\
-    EVENT 7 3430 t.c mean CLEAR WARNING 53.3333333 3430\nSTORED 6\n\
-    EVENT 8 3485 t.c high WARNING CLEAR 20 3545\n\
-    EVENT 9 3485 t.c mean WARNING CLEAR 20 3485\n\
-    EVENT 10 3485 t.d slow CLEAR CRITICAL 901 3485\n",
-    Status::Ok,
-);
+/// The command with this number, from 0 on.
+pub fn command(number: usize) -> Result<&'static Step, Fail> {
+    let found = match number {
+        0..20 => FIRST.get(number),
+        20..40 => SECOND.get(number.saturating_sub(20)),
+        _ => THIRD.get(number.saturating_sub(40)),
+    };
+    match found {
+        Some(step) => Ok(step),
+        None => Err(Fail::new("no such command")),
+    }
+}
 
-/// The next is a configuration that takes an alarm away. It makes a checkpoint with a segment of
-/// minutes and one of hours.
-pub const REPLACED: Step = (
-    HEALTH,
-    "alarm: mean\non: t.c\nlookup: average -20s of a\nevery: 1s\nwarn: $this > 40\n\
-    alarm: slow\non: t.d\ncalc: $c\nevery: 1m\ncrit: $this > 900\nalarm: low\non: t.d\n\
-    calc: $c\nevery: 1s\nwarn: $this > 5\n",
-    "STORED 10\nEVENT 15 3605 t.c high WARNING REMOVED nan -\n",
-    Status::Ok,
-);
-
-/// The last stores two beats. With the second of them the first segment of points is gone, and
-/// their floor is 3431.
-pub const RAISED: Step = (
-    RUN,
-    "BEGIN t.d\nSET c = 8\nEND\nMOMENT 3610\nBEGIN t.c\nSET a = 90\nSET b = 2\nEND\n\
-    BEGIN t.d\nSET c = 9\nEND\nMOMENT 3615\n",
-    "STORED 11\nEVENT 16 3610 t.d low UNINITIALIZED WARNING 8 3610\nSTORED 12\n\
-    EVENT 17 3615 t.c mean UNDEFINED WARNING 90 3615\n",
-    Status::Ok,
-);
-
-/// The commands before the first that is swept.
-pub static FIRST: [Step; 18] = [
+/// The first twenty.
+static FIRST: [Step; 20] = [
     (
         &["new", "7", "9", "1", "12", "1", "3", "1"],
         "",
@@ -151,16 +129,27 @@ pub static FIRST: [Step; 18] = [
         Status::Ok,
     ),
     (&["collect", "1", "1", "p"], "", "", Status::SpawnFault),
-];
-
-/// Those up to the next.
-pub static SECOND: [Step; 12] = [
+    (
+        RUN,
+        "BEGIN t.c\nSET a = 70\nSET b = 1\nEND\nBEGIN t.d\nSET c = 2\nEND\nMOMENT 3430\n\
+    BEGIN t.c\nSET a = 20\nSET b = 9\nEND\nBEGIN t.d\nSET c = 901\nEND\nMOMENT 3485\n",
+        "STORED 5\nEVENT 6 3430 t.c high CLEAR WARNING 70 3440\n\
+    EVENT 7 3430 t.c mean CLEAR WARNING 53.3333333 3430\nSTORED 6\n\
+    EVENT 8 3485 t.c high WARNING CLEAR 20 3545\n\
+    EVENT 9 3485 t.c mean WARNING CLEAR 20 3485\n\
+    EVENT 10 3485 t.d slow CLEAR CRITICAL 901 3485\n",
+        Status::Ok,
+    ),
     (
         &["query", "t.c", "3400", "3500", "20", "min"],
         "",
         "ROWS 5 a b\n3400 10 -5\n3420 30 1\n3440 null null\n3460 null null\n3480 20 9\n",
         Status::Ok,
     ),
+];
+
+/// The next twenty.
+static SECOND: [Step; 20] = [
     (
         &["query", "t.c", "3360", "3540", "60", "average"],
         "",
@@ -222,10 +211,14 @@ pub static SECOND: [Step; 12] = [
         "ROWS 6 c\n3600 null\n3601 null\n3602 null\n3603 null\n3604 null\n3605 7\n",
         Status::Ok,
     ),
-];
-
-/// Those up to the last.
-pub static THIRD: [Step; 2] = [
+    (
+        HEALTH,
+        "alarm: mean\non: t.c\nlookup: average -20s of a\nevery: 1s\nwarn: $this > 40\n\
+    alarm: slow\non: t.d\ncalc: $c\nevery: 1m\ncrit: $this > 900\nalarm: low\non: t.d\n\
+    calc: $c\nevery: 1s\nwarn: $this > 5\n",
+        "STORED 10\nEVENT 15 3605 t.c high WARNING REMOVED nan -\n",
+        Status::Ok,
+    ),
     (
         LOG,
         "",
@@ -252,10 +245,14 @@ pub static THIRD: [Step; 2] = [
         "ROWS 3 a b\n3480 20 9\n3540 51 6\n3600 null null\n",
         Status::Ok,
     ),
-];
-
-/// Those behind it. The tiers of records lose their first segments, too.
-pub static LAST: [Step; 24] = [
+    (
+        RUN,
+        "BEGIN t.d\nSET c = 8\nEND\nMOMENT 3610\nBEGIN t.c\nSET a = 90\nSET b = 2\nEND\n\
+    BEGIN t.d\nSET c = 9\nEND\nMOMENT 3615\n",
+        "STORED 11\nEVENT 16 3610 t.d low UNINITIALIZED WARNING 8 3610\nSTORED 12\n\
+    EVENT 17 3615 t.c mean UNDEFINED WARNING 90 3615\n",
+        Status::Ok,
+    ),
     (
         &["query", "t.c", "3405", "3445", "5", "average"],
         "",
@@ -289,6 +286,10 @@ pub static LAST: [Step; 24] = [
     3610 null null\n3615 null null\n3620 25.5 1.5\n3625 null null\n",
         Status::Ok,
     ),
+];
+
+/// Those up to the last, which is a session.
+static THIRD: [Step; 19] = [
     (
         RUN,
         "BEGIN t.c\nSET a = 11 A\nSET b = 12\nEND\nBEGIN t.d\nSET c = 13\nEND\nMOMENT 3630\n\

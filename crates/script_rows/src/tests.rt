@@ -1,0 +1,326 @@
+//! The script, and the sweeps of its commands, each with how many crashes it has at the least: one for each of its calls
+//! that is refused, and one where none is.
+
+use crate::files::host_before;
+use crate::places::Place;
+use crate::sessions::{child, parent};
+use crate::sweeps::sweep;
+use host_model::Keep;
+use std::alloc::Global;
+use std::test::Fail;
+
+/// Whether at least so many crashes of a command are tried with this kept, and all are sound.
+fn is_sound(alloc: Global, place: &Place, keep: Keep, crashes: u64) -> Result<(), Fail> {
+    let seen = sweep(alloc, place, keep)?;
+    if seen.0 >= crashes && seen.1.is_none() {
+        return Ok(());
+    }
+    Err(Fail::new(format!(in alloc; "{keep:?}: {seen:?}")?))
+}
+
+/// The same of a command of the script, behind which a beat is stored at this moment.
+fn is_sound_with(
+    alloc: Global,
+    number: usize,
+    moment: u32,
+    keep: Keep,
+    crashes: u64,
+) -> Result<(), Fail> {
+    let place = Place::of(alloc, number, moment)?;
+    is_sound(alloc, &place, keep, crashes)
+}
+
+/// The same with each of what a crash may keep.
+fn is_sound_at(alloc: Global, number: usize, moment: u32, crashes: u64) -> Result<(), Fail> {
+    let place = Place::of(alloc, number, moment)?;
+    for keep in [Keep::All, Keep::None, Keep::Fill(255)] {
+        is_sound(alloc, &place, keep, crashes)?;
+    }
+    Ok(())
+}
+
+#[test]
+fn each_command_of_the_script_ends_as_it_should(rt: HostRuntime) -> Result<(), Fail> {
+    host_before(rt.alloc(), 59)?;
+    Ok(())
+}
+
+#[test]
+fn the_child_of_the_session_keeps_all(rt: HostRuntime) -> Result<(), Fail> {
+    is_sound(rt.alloc(), &child(rt.alloc())?, Keep::All, 10)
+}
+
+#[test]
+fn the_child_of_the_session_keeps_none(rt: HostRuntime) -> Result<(), Fail> {
+    is_sound(rt.alloc(), &child(rt.alloc())?, Keep::None, 10)
+}
+
+#[test]
+fn the_child_of_the_session_fills(rt: HostRuntime) -> Result<(), Fail> {
+    is_sound(rt.alloc(), &child(rt.alloc())?, Keep::Fill(255), 10)
+}
+
+#[test]
+fn its_parent_keeps_all(rt: HostRuntime) -> Result<(), Fail> {
+    is_sound(rt.alloc(), &parent(rt.alloc())?, Keep::All, 45)
+}
+
+#[test]
+fn its_parent_keeps_none(rt: HostRuntime) -> Result<(), Fail> {
+    is_sound(rt.alloc(), &parent(rt.alloc())?, Keep::None, 45)
+}
+
+#[test]
+fn its_parent_fills(rt: HostRuntime) -> Result<(), Fail> {
+    is_sound(rt.alloc(), &parent(rt.alloc())?, Keep::Fill(255), 45)
+}
+
+#[test]
+fn command_0(rt: HostRuntime) -> Result<(), Fail> {
+    is_sound_at(rt.alloc(), 0, 3410, 20)
+}
+
+#[test]
+fn command_1(rt: HostRuntime) -> Result<(), Fail> {
+    is_sound_at(rt.alloc(), 1, 3410, 7)
+}
+
+#[test]
+fn command_2(rt: HostRuntime) -> Result<(), Fail> {
+    is_sound_at(rt.alloc(), 2, 3410, 14)
+}
+
+#[test]
+fn command_4(rt: HostRuntime) -> Result<(), Fail> {
+    is_sound_at(rt.alloc(), 4, 3410, 21)
+}
+
+#[test]
+fn command_6(rt: HostRuntime) -> Result<(), Fail> {
+    is_sound_at(rt.alloc(), 6, 3412, 21)
+}
+
+#[test]
+fn command_7(rt: HostRuntime) -> Result<(), Fail> {
+    is_sound_at(rt.alloc(), 7, 3418, 21)
+}
+
+#[test]
+fn command_10(rt: HostRuntime) -> Result<(), Fail> {
+    is_sound_at(rt.alloc(), 10, 3420, 15)
+}
+
+#[test]
+fn command_11(rt: HostRuntime) -> Result<(), Fail> {
+    is_sound_at(rt.alloc(), 11, 3420, 15)
+}
+
+#[test]
+fn command_12(rt: HostRuntime) -> Result<(), Fail> {
+    is_sound_at(rt.alloc(), 12, 3430, 21)
+}
+
+#[test]
+fn command_18(rt: HostRuntime) -> Result<(), Fail> {
+    is_sound_at(rt.alloc(), 18, 3495, 51)
+}
+
+#[test]
+fn command_23(rt: HostRuntime) -> Result<(), Fail> {
+    is_sound_at(rt.alloc(), 23, 3490, 30)
+}
+
+#[test]
+fn command_24(rt: HostRuntime) -> Result<(), Fail> {
+    is_sound_at(rt.alloc(), 24, 3490, 36)
+}
+
+#[test]
+fn command_26(rt: HostRuntime) -> Result<(), Fail> {
+    is_sound_at(rt.alloc(), 26, 3490, 30)
+}
+
+#[test]
+fn command_27(rt: HostRuntime) -> Result<(), Fail> {
+    is_sound_at(rt.alloc(), 27, 3550, 36)
+}
+
+#[test]
+fn command_29_keeps_all(rt: HostRuntime) -> Result<(), Fail> {
+    is_sound_with(rt.alloc(), 29, 3610, Keep::All, 36)
+}
+
+#[test]
+fn command_29_keeps_none(rt: HostRuntime) -> Result<(), Fail> {
+    is_sound_with(rt.alloc(), 29, 3610, Keep::None, 36)
+}
+
+#[test]
+fn command_29_fills(rt: HostRuntime) -> Result<(), Fail> {
+    is_sound_with(rt.alloc(), 29, 3610, Keep::Fill(255), 36)
+}
+
+#[test]
+fn command_31_keeps_all(rt: HostRuntime) -> Result<(), Fail> {
+    is_sound_with(rt.alloc(), 31, 3610, Keep::All, 64)
+}
+
+#[test]
+fn command_31_keeps_none(rt: HostRuntime) -> Result<(), Fail> {
+    is_sound_with(rt.alloc(), 31, 3610, Keep::None, 64)
+}
+
+#[test]
+fn command_31_fills(rt: HostRuntime) -> Result<(), Fail> {
+    is_sound_with(rt.alloc(), 31, 3610, Keep::Fill(255), 64)
+}
+
+#[test]
+fn command_34_keeps_all(rt: HostRuntime) -> Result<(), Fail> {
+    is_sound_with(rt.alloc(), 34, 3616, Keep::All, 61)
+}
+
+#[test]
+fn command_34_keeps_none(rt: HostRuntime) -> Result<(), Fail> {
+    is_sound_with(rt.alloc(), 34, 3616, Keep::None, 61)
+}
+
+#[test]
+fn command_34_fills(rt: HostRuntime) -> Result<(), Fail> {
+    is_sound_with(rt.alloc(), 34, 3616, Keep::Fill(255), 61)
+}
+
+#[test]
+fn command_37_keeps_all(rt: HostRuntime) -> Result<(), Fail> {
+    is_sound_with(rt.alloc(), 37, 3619, Keep::All, 100)
+}
+
+#[test]
+fn command_37_keeps_none(rt: HostRuntime) -> Result<(), Fail> {
+    is_sound_with(rt.alloc(), 37, 3619, Keep::None, 100)
+}
+
+#[test]
+fn command_37_fills(rt: HostRuntime) -> Result<(), Fail> {
+    is_sound_with(rt.alloc(), 37, 3619, Keep::Fill(255), 100)
+}
+
+#[test]
+fn command_38_keeps_all(rt: HostRuntime) -> Result<(), Fail> {
+    is_sound_with(rt.alloc(), 38, 3626, Keep::All, 67)
+}
+
+#[test]
+fn command_38_keeps_none(rt: HostRuntime) -> Result<(), Fail> {
+    is_sound_with(rt.alloc(), 38, 3626, Keep::None, 67)
+}
+
+#[test]
+fn command_38_fills(rt: HostRuntime) -> Result<(), Fail> {
+    is_sound_with(rt.alloc(), 38, 3626, Keep::Fill(255), 67)
+}
+
+#[test]
+fn command_40_keeps_all(rt: HostRuntime) -> Result<(), Fail> {
+    is_sound_with(rt.alloc(), 40, 3729, Keep::All, 97)
+}
+
+#[test]
+fn command_40_keeps_none(rt: HostRuntime) -> Result<(), Fail> {
+    is_sound_with(rt.alloc(), 40, 3729, Keep::None, 97)
+}
+
+#[test]
+fn command_40_fills(rt: HostRuntime) -> Result<(), Fail> {
+    is_sound_with(rt.alloc(), 40, 3729, Keep::Fill(255), 97)
+}
+
+#[test]
+fn command_42_keeps_all(rt: HostRuntime) -> Result<(), Fail> {
+    is_sound_with(rt.alloc(), 42, 3788, Keep::All, 71)
+}
+
+#[test]
+fn command_42_keeps_none(rt: HostRuntime) -> Result<(), Fail> {
+    is_sound_with(rt.alloc(), 42, 3788, Keep::None, 71)
+}
+
+#[test]
+fn command_42_fills(rt: HostRuntime) -> Result<(), Fail> {
+    is_sound_with(rt.alloc(), 42, 3788, Keep::Fill(255), 71)
+}
+
+#[test]
+fn command_43_keeps_all(rt: HostRuntime) -> Result<(), Fail> {
+    is_sound_with(rt.alloc(), 43, 3795, Keep::All, 60)
+}
+
+#[test]
+fn command_43_keeps_none(rt: HostRuntime) -> Result<(), Fail> {
+    is_sound_with(rt.alloc(), 43, 3795, Keep::None, 60)
+}
+
+#[test]
+fn command_43_fills(rt: HostRuntime) -> Result<(), Fail> {
+    is_sound_with(rt.alloc(), 43, 3795, Keep::Fill(255), 60)
+}
+
+#[test]
+fn command_44_keeps_all(rt: HostRuntime) -> Result<(), Fail> {
+    is_sound_with(rt.alloc(), 44, 3849, Keep::All, 60)
+}
+
+#[test]
+fn command_44_keeps_none(rt: HostRuntime) -> Result<(), Fail> {
+    is_sound_with(rt.alloc(), 44, 3849, Keep::None, 60)
+}
+
+#[test]
+fn command_44_fills(rt: HostRuntime) -> Result<(), Fail> {
+    is_sound_with(rt.alloc(), 44, 3849, Keep::Fill(255), 60)
+}
+
+#[test]
+fn command_46_keeps_all(rt: HostRuntime) -> Result<(), Fail> {
+    is_sound_with(rt.alloc(), 46, 3855, Keep::All, 100)
+}
+
+#[test]
+fn command_46_keeps_none(rt: HostRuntime) -> Result<(), Fail> {
+    is_sound_with(rt.alloc(), 46, 3855, Keep::None, 100)
+}
+
+#[test]
+fn command_46_fills(rt: HostRuntime) -> Result<(), Fail> {
+    is_sound_with(rt.alloc(), 46, 3855, Keep::Fill(255), 100)
+}
+
+#[test]
+fn command_49_keeps_all(rt: HostRuntime) -> Result<(), Fail> {
+    is_sound_with(rt.alloc(), 49, 7209, Keep::All, 83)
+}
+
+#[test]
+fn command_49_keeps_none(rt: HostRuntime) -> Result<(), Fail> {
+    is_sound_with(rt.alloc(), 49, 7209, Keep::None, 83)
+}
+
+#[test]
+fn command_49_fills(rt: HostRuntime) -> Result<(), Fail> {
+    is_sound_with(rt.alloc(), 49, 7209, Keep::Fill(255), 83)
+}
+
+#[test]
+fn command_52_keeps_all(rt: HostRuntime) -> Result<(), Fail> {
+    is_sound_with(rt.alloc(), 52, 7275, Keep::All, 100)
+}
+
+#[test]
+fn command_52_keeps_none(rt: HostRuntime) -> Result<(), Fail> {
+    is_sound_with(rt.alloc(), 52, 7275, Keep::None, 100)
+}
+
+#[test]
+fn command_52_fills(rt: HostRuntime) -> Result<(), Fail> {
+    is_sound_with(rt.alloc(), 52, 7275, Keep::Fill(255), 100)
+}
