@@ -1,6 +1,7 @@
 //! What `health`, `run` and `log` tell of alarms, over hosts that live through several commands.
 
-use command_runs::{MAKE, RUN, Step, first_wrong, host_of, run_over};
+use crate::run::{host_of, run_over};
+use crate::steps::{MAKE, RUN, Step, first_wrong};
 use host_model::Status;
 use std::alloc::Global;
 use std::test::Fail;

@@ -1,6 +1,7 @@
 //! Questions: between the beats of a text, and by the command `query`.
 
-use command_runs::{MAKE, RUN, STORE, Step, first_wrong, host_of, run_over};
+use crate::run::{host_of, run_over};
+use crate::steps::{MAKE, RUN, STORE, Step, first_wrong};
 use host_model::Status;
 use std::alloc::Global;
 use std::test::Fail;

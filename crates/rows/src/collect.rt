@@ -1,6 +1,6 @@
 //! Programs that are run as collectors, over children in memory and a clock that always reads 100.
 
-use command_runs::{call_main, calls, host_of, run_over, told_since};
+use crate::run::{call_main, calls, host_of, run_over, told_since};
 use host_model::{CallList, MemoryHost, MemorySource, MemorySpawner, Status};
 use std::alloc::Global;
 use std::test::Fail;

@@ -1,6 +1,6 @@
 //! A collector each of whose calls on the host, and on the spawner, is refused in turn.
 
-use command_runs::{Ending, call_main, calls, host_of, run_over, told_since};
+use crate::run::{Ending, call_main, calls, host_of, run_over, told_since};
 use host_model::{CallList, MemoryHost, MemorySource, MemorySpawner, Status};
 use std::alloc::{AllocError, Global};
 use std::fmt::Write;

@@ -1,6 +1,6 @@
 //! Which alarms a configuration and the charts say, and what is told where these change.
 
-use command_runs::{MAKE, RUN, Step, first_wrong};
+use crate::steps::{MAKE, RUN, Step, first_wrong};
 use host_model::Status;
 use std::test::Fail;
 

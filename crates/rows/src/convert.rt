@@ -2,7 +2,7 @@
 
 mod table;
 
-use command_runs::{Outside, run};
+use crate::run::{Outside, run};
 use host_model::Status;
 use std::test::Fail;
 use table::{READ, REFUSED};

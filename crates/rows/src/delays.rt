@@ -1,6 +1,6 @@
 //! Until when whoever tells of an alarm is to wait, over hosts that live through several commands.
 
-use command_runs::{MAKE, RUN, Step, first_wrong};
+use crate::steps::{MAKE, RUN, Step, first_wrong};
 use host_model::Status;
 use std::test::Fail;
 

@@ -1,4 +1,4 @@
-use command_runs::{ONE_POINT, Outside, POINT, host_of, run, run_over};
+use crate::run::{ONE_POINT, Outside, POINT, host_of, run, run_over};
 use host_model::Status;
 use std::alloc::Global;
 use std::test::Fail;

@@ -3,7 +3,7 @@
 
 mod files;
 
-use command_runs::{MAKE, RUN, first_wrong};
+use crate::steps::{MAKE, RUN, first_wrong};
 use files::{CPU, DISK, MEMORY, NETWORK, TEMPLATE};
 use host_model::Status;
 use std::test::Fail;

@@ -1,6 +1,6 @@
 //! How long the text of a configuration may be, and what a source that fails leaves.
 
-use command_runs::{host_of, run_over};
+use crate::run::{host_of, run_over};
 use host_model::{MemoryHost, Status};
 use std::alloc::Global;
 use std::test::Fail;

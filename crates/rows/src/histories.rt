@@ -2,7 +2,8 @@
 //! behind beats questions are answered as a plain definition says, which goes through all beats.
 
 use crate::random::{Point, Random, group_name, sum_up, write_cell};
-use command_runs::{RUN, host_of, run_over};
+use crate::run::{host_of, run_over};
+use crate::steps::RUN;
 use host_model::{MemoryHost, Status};
 use std::alloc::{AllocError, Global};
 use std::fmt::Write;

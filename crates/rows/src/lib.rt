@@ -31,7 +31,11 @@ mod random;
 #[cfg(test)]
 mod replaced_crashes;
 #[cfg(test)]
+mod run;
+#[cfg(test)]
 mod sealed_crashes;
+#[cfg(test)]
+mod steps;
 #[cfg(test)]
 mod stored;
 #[cfg(test)]

@@ -1,6 +1,6 @@
 //! What `log` tells, over hosts that live through several commands.
 
-use command_runs::{MAKE, STORE, Step, first_wrong};
+use crate::steps::{MAKE, STORE, Step, first_wrong};
 use host_model::Status;
 use std::test::Fail;
 

@@ -1,6 +1,6 @@
 //! Random texts with questions between their beats, against an answer that is counted out here.
 
-use command_runs::{host_of, run_over};
+use crate::run::{host_of, run_over};
 use host_model::Status;
 use std::alloc::{AllocError, Global};
 use std::fmt::Write;

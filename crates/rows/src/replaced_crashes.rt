@@ -1,7 +1,8 @@
 //! What a crash leaves of a second configuration, which takes an alarm away, with each call on the host refused in
 //! turn: the alarm and its log as they were, or the alarm gone and its event in the log.
 
-use command_runs::{Ending, MAKE, RUN, host_of, run_over};
+use crate::run::{Ending, host_of, run_over};
+use crate::steps::{MAKE, RUN};
 use host_model::{Keep, MemoryHost, Status};
 use std::alloc::Global;
 use std::test::Fail;

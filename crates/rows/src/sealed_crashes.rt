@@ -1,6 +1,7 @@
 //! A beat before which a checkpoint seals a segment of points and one of minutes, and crashes at each of its calls.
 
-use command_runs::{RUN, Step, first_wrong_over, host_of, run_over, step};
+use crate::run::{host_of, run_over};
+use crate::steps::{RUN, Step, first_wrong_over, step};
 use host_model::{Keep, MemoryHost, Status};
 use std::alloc::Global;
 use std::test::Fail;

@@ -1,8 +1,7 @@
 //! What `new` and `run` leave of a database, over hosts that live through several commands.
 
-use command_runs::{
-    Ending, MAKE, NEW, ONE_POINT, POINT, RUN, STORE, Step, first_wrong, host_of, run_over, step,
-};
+use crate::run::{Ending, ONE_POINT, POINT, host_of, run_over};
+use crate::steps::{MAKE, NEW, RUN, STORE, Step, first_wrong, step};
 use host_model::{Keep, MemoryHost, Status};
 use std::alloc::{AllocError, Global};
 use std::fmt::Write;

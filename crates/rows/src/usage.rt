@@ -1,4 +1,4 @@
-use command_runs::{ONE_POINT, Outside, run};
+use crate::run::{ONE_POINT, Outside, run};
 use host_model::Status;
 use std::alloc::Global;
 use std::test::Fail;

@@ -1,7 +1,7 @@
 //! The commands of the script but the last, and what each tells. What is wanted was worked out by a plain model of the
 //! definitions: all beats, of which each answer filters those that it needs.
 
-use command_runs::{RUN, Step};
+use crate::runs::{RUN, Step};
 use host_model::Status;
 use std::test::Fail;
 

@@ -1,7 +1,7 @@
 //! The files of a host, and hosts that have them.
 
 use crate::commands::command;
-use command_runs::{first_wrong_over, host_of};
+use crate::runs::{host_of, is_right};
 use host_model::{File, Host, MemoryHost};
 use std::alloc::Global;
 use std::test::Fail;
@@ -86,7 +86,7 @@ impl Files {
 /// Runs a command that ends as it should.
 fn take(alloc: Global, host: &mut MemoryHost, number: usize) -> Result<(), Fail> {
     let step = command(number)?;
-    if first_wrong_over(alloc, host, &[*step])?.is_some() {
+    if !is_right(alloc, host, step)? {
         return Err(Fail::new(number));
     }
     Ok(())

@@ -1,6 +1,6 @@
 //! What a host has, by what it answers.
 
-use command_runs::{RUN, run_over};
+use crate::runs::{RUN, run_over};
 use host_model::{MemoryHost, Status};
 use std::alloc::{AllocError, Global};
 use std::test::Fail;
@@ -33,8 +33,8 @@ pub struct Found {
 impl Found {
     /// What is found by this text.
     pub fn by(alloc: Global, host: &mut MemoryHost, text: &str) -> Result<Found, Fail> {
-        let end = run_over(alloc, host, RUN, text.as_bytes(), &[])?;
-        let log = run_over(alloc, host, &["log", "text"], b"", &[])?.told;
+        let end = run_over(alloc, host, RUN, text.as_bytes())?;
+        let log = run_over(alloc, host, &["log", "text"], b"")?.told;
         Ok(Found {
             status: end.status,
             told: end.told,

@@ -2,7 +2,7 @@
 
 use crate::files::Files;
 use crate::found::Found;
-use command_runs::{Step, run_over};
+use crate::runs::{Step, run_over};
 use std::alloc::{AllocError, Global};
 use std::test::Fail;
 
@@ -62,7 +62,7 @@ fn left_by(
     let mut told = String::new(alloc);
     if beats > 0 {
         let input = first_beats(alloc, step.1, beats)?;
-        told = run_over(alloc, &mut host, step.0, input.as_bytes(), &[])?.told;
+        told = run_over(alloc, &mut host, step.0, input.as_bytes())?.told;
     }
     let found = Found::by(alloc, &mut host, text)?;
     Ok(Left { told, found })

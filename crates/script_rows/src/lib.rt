@@ -15,6 +15,8 @@ mod lefts;
 #[cfg(test)]
 mod places;
 #[cfg(test)]
+mod runs;
+#[cfg(test)]
 mod sessions;
 #[cfg(test)]
 mod sweeps;

@@ -4,7 +4,7 @@ use crate::commands::command;
 use crate::files::{Files, host_before};
 use crate::found::{Found, text_at};
 use crate::lefts::{Left, found_among, lefts_of, told_among};
-use command_runs::{Session, Step, talk_over};
+use crate::runs::{Session, Step, talk_over};
 use host_model::{Keep, MemoryHost, Status};
 use std::alloc::Global;
 use std::test::Fail;

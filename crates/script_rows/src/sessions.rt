@@ -5,7 +5,7 @@ use crate::files::{Files, host_before};
 use crate::found::{Found, text_at};
 use crate::lefts::{Left, first_beats, lefts_of};
 use crate::places::Place;
-use command_runs::{Session, Step, host_of, run_over, talk_over};
+use crate::runs::{Session, Step, host_of, run_over, talk_over};
 use host_model::Status;
 use std::alloc::Global;
 use std::test::Fail;
@@ -65,7 +65,7 @@ fn said_earlier(alloc: Global, heard: &[u8]) -> Result<Vec<u8>, Fail> {
     let mut host = host_before(alloc, 52)?;
     let (words, input, _, _) = command(52)?;
     let input = first_beats(alloc, input, 1)?;
-    run_over(alloc, &mut host, words, input.as_bytes(), &[])?;
+    run_over(alloc, &mut host, words, input.as_bytes())?;
     Ok(talk_over(alloc, &mut host, SEND, b"", heard)?.sent)
 }
 
@@ -78,9 +78,9 @@ fn said_at_last(alloc: Global, heard: &[u8]) -> Result<Vec<u8>, Fail> {
 /// A parent that has the script's alarms, and what the child keeps up to 7210.
 fn parent_files(alloc: Global) -> Result<Files, Fail> {
     let mut host = host_of(alloc, &[])?;
-    run_over(alloc, &mut host, PARENT, b"", &[])?;
+    run_over(alloc, &mut host, PARENT, b"")?;
     let (words, alarms, _, _) = command(31)?;
-    run_over(alloc, &mut host, words, alarms.as_bytes(), &[])?;
+    run_over(alloc, &mut host, words, alarms.as_bytes())?;
     let heard = said_earlier(alloc, FROM_START)?;
     talk_over(alloc, &mut host, RECEIVE, b"", heard.as_slice())?;
     Files::of(alloc, &mut host)

@@ -1,6 +1,6 @@
 //! Commands over one host, and the first of them that does not end as it should.
 
-use crate::runs::{ONE_POINT, host_of, run_over};
+use crate::run::{ONE_POINT, host_of, run_over};
 use host_model::{MemoryHost, Status};
 use std::alloc::Global;
 use std::test::Fail;
