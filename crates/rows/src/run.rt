@@ -125,27 +125,3 @@ pub fn run(alloc: Global, words: &[&str], outside: Outside) -> Result<Ending, Fa
     let mut host = host_of(alloc, outside.tell_fails)?;
     run_over(alloc, &mut host, words, outside.input, outside.pull_fails)
 }
-
-/// Runs the top call over a link on which these bytes come, and gives what was sent. Nothing is put in.
-pub fn talk_over(
-    alloc: Global,
-    host: &mut MemoryHost,
-    words: &[&str],
-    heard: &[u8],
-) -> Result<(Status, Vec<u8>), Fail> {
-    let words = words_list(alloc, words)?;
-    let mut source = MemorySource::new(alloc, b"", CallList::new(alloc))?;
-    let mut link = MemoryLink::new(alloc, heard, CallList::new(alloc))?;
-    let mut spawner = MemorySpawner::new(alloc, CallList::new(alloc));
-    let mut clock = MemoryClock::new(alloc, &[100])?;
-    let status = hand_over(
-        alloc,
-        &words,
-        &mut source,
-        host,
-        &mut link,
-        &mut spawner,
-        &mut clock,
-    );
-    Ok((status, link.sent().to_vec(alloc)?))
-}
