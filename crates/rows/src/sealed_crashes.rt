@@ -37,7 +37,7 @@ const THIRD: Step = (
 );
 
 /// More calls on the host than the four commands make.
-const CALLS: u64 = 200;
+const CALLS: u64 = 400;
 
 /// A beat behind all of them.
 const NEXT: &str = "BEGIN t.c\nSET a = 4\nEND\nMOMENT 62\n";
