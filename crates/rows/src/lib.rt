@@ -33,8 +33,6 @@ mod replaced_crashes;
 #[cfg(test)]
 mod run;
 #[cfg(test)]
-mod sealed_crashes;
-#[cfg(test)]
 mod steps;
 #[cfg(test)]
 mod stored;
