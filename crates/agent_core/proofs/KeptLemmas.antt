@@ -314,18 +314,6 @@ agent-more past new agent parts agent' set h beat moment is_of holds count going
   going = ap (λ (a : AgentState). a.fault) is ∙ going;
 }
 
--- the moments of a beat that nothing refuses; `inside` is what the agent is made of
-pub beat_moments : (past new : List Event) (agent inside : AgentState) (set : Settings) (h : List Beat) (moment : ℕ) (beat : OpenBeat) → inside ≡ agent → IsOpenBeat beat
-    → beat_refusal inside.registry (copies inside.role) inside.last moment beat ≡ None → IsAgentOf past agent set h
-    → (HoldsHistory past inside.store set h → IsLeftBy set h (left_in inside) → Follows h moment beat
-    → Throughout (EveryDisk (λ disk. StandsForHistory set h disk ⊎ StandsForHistory set (collected moment beat ∷ h) disk)) past new)
-    → Throughout (EveryDisk (StandsForOneOf set h (beat_refusal agent.registry (copies agent.role) agent.last moment beat) (collected moment beat ∷ h))) past new
-beat_moments past new agent inside set h moment beat view is_open free is_of moments =
-    let free' : beat_refusal agent.registry (copies agent.role) agent.last moment beat ≡ None
-    = ap (λ (a : AgentState). beat_refusal a.registry (copies a.role) a.last moment beat) (sym view) ∙ free in
-    one_of past agent set h is_of (beat_refusal agent.registry (copies agent.role) agent.last moment beat) (collected moment beat ∷ h) new free'
-    (moments (subst (λ (a : AgentState). HoldsHistory past a.store set h) (sym view) is_of.holds) (subst (λ (a : AgentState). IsLeftBy set h (left_in a)) (sym view) is_of.left_by) (follows-of past agent set h is_of moment beat is_open free'))
-
 -- ---- a configuration that nothing refuses
 pub health-nothing : (past : List Event) (agent : AgentState) (set : Settings) (h : List Beat) (text : List ℕ) → IsAgentOf past agent set h → EveryDisk (StandsForHealth set h text) past
 health-nothing past agent set h text is_of disk images = inl (stays past agent.store set h is_of.holds disk images)

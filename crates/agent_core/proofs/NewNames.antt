@@ -20,8 +20,6 @@ use Rattle.history.specs.Put.{put_all}
 use Rattle.history.specs.Refusal.{is_new_dimension, is_new_of}
 use Rattle.history.specs.Registry.{Registry, is_chart, is_of, same_chart}
 use Rattle.chart_registry.proofs.Applying.{any-put_all, same_chart-alike}
-use Rattle.chart_registry.proofs.FewLemmas.{count-cons}
-use Rattle.chart_registry.proofs.Finding.{one_if}
 use Rattle.chart_registry.proofs.RowsLemmas.{bytes_eq_same, same_text}
 use Rattle.beat_entries.specs.Copied.{usual_dimension}
 use Rattle.beat_entries.proofs.Within.{few-charts}
@@ -46,9 +44,6 @@ module _ {A : Type 0} (p : A → Bool) (xs : List A) (i : ℕ) (x : A) (within :
   pub counted-at : p x ≡ true → count_by p (take i xs) + 1 ≤ count_by p xs
   counted-at passes =
       omega (arith, count_by_more_yes p xs i x within (ap p at ∙ passes), sum_by-take-le (λ (y : A). cond (p y) 1 0) xs (i + 1))
-
-pub counted-one : {A : Type 0} (p : A → Bool) (x : A) (b : Bool) → p x ≡ b → count_by p (x ∷ []) ≡ one_if b
-counted-one p x b is = omega (arith, count-cons p x [], ap one_if is)
 
 module _ (registry : Registry) (names : Names) (dimensions : List DimName) (i : ℕ) (dimension : DimName) (within : i < length dimensions) (at : get_or dimensions i dimension ≡ dimension) where
   pub counts-next : (before after : List ℕ) → CountsNew registry names (take i dimensions) before → CountsMore registry names dimension before after → CountsNew registry names (take (i + 1) dimensions) after

@@ -1,5 +1,5 @@
 -- What holds where a call was done, or was not.
-use Rattle.std.proofs.Common.{◌≡◌, ◌⊎◌, inl, inr, ℕ, ◌≤◌, Option, None, Result, Ok, Err, IfErr, IfOk, IsErrOf, OnOk, OnErr, refl, sym, subst, ◌∙◌, le_refl}
+use Rattle.std.proofs.Common.{◌≡◌, ℕ, ◌≤◌, Option, None, Result, Ok, Err, IfErr, IfOk, IsErrOf, OnOk, OnErr, refl, sym, subst, ◌∙◌, le_refl}
 use Rattle.std.proofs.lemmas.Option.{none-some}
 use Rattle.host_model.specs.Cause.{HasCause}
 use Rattle.health_config.specs.declared.fault.ConfigFault.{ConfigFault}
@@ -77,17 +77,6 @@ spending-changes (Health why) spends leaves = spends
 spending-changes NotADatabase spends leaves = spends
 spending-changes (Damaged part) spends leaves = spends
 spending-changes Exists spends leaves = spends
-
--- it is of the disk or of memory
-pub spending-is : (fault : AgentFault) → IsSpending fault → (fault ≡ DiskFault) ⊎ (fault ≡ Memory)
-spending-is DiskFault spends = inl refl
-spending-is Memory spends = inr refl
-spending-is (Reopen cause) spends = absurd spends
-spending-is (Refused why) spends = absurd spends
-spending-is (Health why) spends = absurd spends
-spending-is NotADatabase spends = absurd spends
-spending-is (Damaged part) spends = absurd spends
-spending-is Exists spends = absurd spends
 
 -- and no health text is refused with it
 pub spending-health : (fault : AgentFault) → IsSpending fault → IsHealthRefusal None fault

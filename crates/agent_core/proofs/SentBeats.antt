@@ -63,9 +63,6 @@ pub record SoFar (series least : ℕ) (words : List SeriesWord) : Type 0 where
   pub few : length words ≤ least
   pub within : least ≤ series
 
-pub none-so_far : (series : ℕ) → SoFar series 0 []
-none-so_far series = record { sendable = record { of = tt; rise = refl; numbers = refl }; fits = tt; below = tt; few = omega arith; within = omega arith }
-
 places-below : (least : ℕ) (words : List SeriesWord) → AllByRecursion (Below least) words → AllByRecursion (λ m. m < least) (map place_of words)
 places-below least [] below = tt
 places-below least (word ∷ words) below = (below.0, places-below least words below.1)
@@ -113,13 +110,6 @@ pub record AllSoFar (series least : ℕ) (words : List SeriesWord) (points : Lis
   pub taken : words ≡ words_of (take n points)
   pub rest : AreSendable series (words_of (drop n points))
   pub from : AllByRecursion (From least) (drop n points)
-
-pub all-none : (series : ℕ) (points : List KeptPoint) → AreSendable series (words_of points) → AllSoFar series 0 [] points 0
-all-none series points sendable = record { taken = refl; rest = sendable; from = any points }
-  where
-    any : (points : List KeptPoint) → AllByRecursion (From 0) points
-    any [] = tt
-    any (point ∷ points) = (omega arith, any points)
 
 module _ (series least : ℕ) (words : List SeriesWord) (points : List KeptPoint) (n : ℕ) (point : KeptPoint) (within : n < length points) (at : get_or points n point ≡ point) (all : AllSoFar series least words points n) where
   here : drop n points ≡ point ∷ drop (n + 1) points

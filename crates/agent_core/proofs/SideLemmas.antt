@@ -174,10 +174,3 @@ module _ (side : Side) (left : Left) (is : IsReadFrom side left) where
         (entry-limits nothing_noted (record { registry = with_numbered empty (defined_in side); role = Collects }) (entry.Collected (defined_in side)) refl is.goes none-limits);
     up_to = is.up_to;
   }
-
--- why a side is bad
-pub bad-definitions : (side : Side) → goes_on empty (defined_in side) ≡ false → is_good side ≡ false
-bad-definitions side stops = ap (λ (b : Bool). b && is_some (of_kept (noted_by side).registry side.alarms)) stops
-
-pub bad-alarms : (side : Side) (registry : Registry) → registry ≡ with_numbered empty (defined_in side) → goes_on empty (defined_in side) ≡ true → of_kept registry side.alarms ≡ None → is_good side ≡ false
-bad-alarms side registry made goes none = λ i. goes i && is_some ((ap (λ (r : Registry). of_kept r side.alarms) (sym made) ∙ none) i)

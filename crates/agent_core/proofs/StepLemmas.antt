@@ -24,7 +24,7 @@ use Rattle.store_core.specs.declared.fault.Why.TheVariants as why
 use Rattle.store_core.specs.disk.Holds.{OnlyOwn}
 use Rattle.agent_core.specs.Gaps.{side_share}
 use Rattle.agent_core.specs.declared.fault.AgentFault.{AgentFault}
-use Rattle.agent_core.specs.declared.fault.AgentFault.TheVariants.{Refused, DiskFault, Reopen, Memory}
+use Rattle.agent_core.specs.declared.fault.AgentFault.TheVariants.{Refused, DiskFault, Memory}
 use Rattle.agent_core.specs.declared.reply.Reply.{Reply}
 use Rattle.agent_core.specs.declared.reply.Said.{Said}
 use Rattle.agent_core.specs.declared.reply.Said.TheVariants.{Disabled, Nothing, Stored, Table}
@@ -397,35 +397,6 @@ module _ (honest : Type 0) (host : Seen) (agent : AgentState) (feed feed' : Feed
       → Throughout (EveryDisk (StandsForOneOf set h reason more)) host.past host.past
   never reason more set h is_of = begins (nothing_done host.past agent set h is_of reason more)
 
-  pub line-reopens : (cause : Why) → agent.fault ≡ Some cause → AgentIsReady honest host.past agent → Lines honest host agent feed line (failed (Reopen cause)) host agent feed'
-  line-reopens cause spent ready = record {
-    any_moment = λ true_host set h every past is_of is_feed. never (line_refusal agent.registry (copies agent.role) agent.last every past line) (history_with h every past line) set h is_of;
-    done = tt;
-    said = tt;
-    answered = tt;
-    events = tt;
-    counts = tt;
-    last = tt;
-    refused = λ going. absurd (none-some cause (sym going ∙ spent));
-    takes = tt;
-    counts_on = tt;
-    leaves = inl same;
-    fed = subst IsFed (sym same) fed;
-    asks = λ quiet. refl;
-    same = λ quiet. tt;
-    fails = λ e. absurd (no-disk (Reopen cause) (λ e. cc) e);
-    quiet = λ none true_host. refl;
-    unchanged = λ leaves. (refl, refl);
-    fault = spent ∙ sym (ap (λ (f : Option Why). fault_after f (failed (Reopen cause))) spent);
-    reopens = spent;
-    stays = (refl, refl);
-    id = refl;
-    ready = ready;
-    cause = record { later = le_refl host.disk_faults; failed = λ e. absurd (no-disk (Reopen cause) (λ e. cc) e); stays = λ _. refl };
-    bound = λ true_host set h is_of limit fits. grows-none set limit host.past agent.store;
-    gaps = refl;
-    only_here = λ true_host. record { others = λ other far. refl; output = refl };
-    tells = refl;
   }
 
   pub line-refused : (fault : BlockFault) → agent.fault ≡ None → AgentIsReady honest host.past agent

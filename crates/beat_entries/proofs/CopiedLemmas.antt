@@ -1,5 +1,5 @@
 -- The entry of a copied beat that may follow a history is that of a beat without rows that defines the same.
-use Rattle.std.proofs.Common.{◌≡◌, ℕ, ◌+◌, ◌<◌, ◌≤◌, Bool, true, false, ◌&&◌, lt-ltb, List, [], ◌∷◌, map, length, Option, Some, None, IsSome, All, refl, sym, ap, subst, ◌∙◌, if◌then◌else◌}
+use Rattle.std.proofs.Common.{◌≡◌, ℕ, ◌+◌, ◌<◌, ◌≤◌, Bool, true, ◌&&◌, lt-ltb, List, [], ◌∷◌, map, length, Option, Some, None, IsSome, All, refl, sym, ap, subst, ◌∙◌, if◌then◌else◌}
 use Rattle.std.specs.List.{find, list_any, list_all, filter_map, enumerate_from, AllByRecursion}
 use Rattle.std.specs.Option.{option_map}
 use Rattle.std.specs.Str.{bytes_eq}
@@ -26,7 +26,6 @@ use Rattle.beat_entries.proofs.DefinedLemmas.{beat-defined, chart-has, dimension
 use Rattle.beat_entries.proofs.EntryLemmas.{if-some}
 use Rattle.beat_entries.proofs.FollowLemmas.{all-places, beat-goes-on, if-true, last-is}
 use Rattle.beat_entries.proofs.Gathering.{map-some}
-use Rattle.chart_registry.proofs.Steps.{and-no}
 
 -- ---- mapped lists
 mapped-back : {X Y : Type 0} (P : Y → Type 0) (tell : Y → X) (full : X → Y) → ((y : Y) → P y → full (tell y) ≡ y) → (ys : List Y) → AllByRecursion P ys → map full (map tell ys) ≡ ys
@@ -135,6 +134,3 @@ module _ (first last : Registry) (entry : Copied) (made : last ≡ with_numbered
 
   pub words-there : goes_on first (defined_by entry) ≡ true → list_all (names_word last) entry.words ≡ true → copied_goes_on first entry ≡ true
   words-there goes there = λ i. goes i && (words-tested ∙ there) i
-
-  pub words-missing : list_all (names_word last) entry.words ≡ false → copied_goes_on first entry ≡ false
-  words-missing missing = ap (λ (b : Bool). goes_on first (defined_by entry) && b) (words-tested ∙ missing) ∙ and-no (goes_on first (defined_by entry))

@@ -18,12 +18,6 @@ use Rattle.chart_registry.proofs.Steps.{and-no}
 
 -- ---- the whole beat
 module _ (first mid : Registry) (beat : NumberedBeat) (mid_is : mid ≡ with_charts first beat.charts) where
-  pub stops-at-dimensions : all_taken takes_dimension with_dimension mid beat.dimensions ≡ false → goes_on first beat ≡ false
-  stops-at-dimensions e =
-      ap (λ (b : Bool). all_taken takes_chart with_chart first beat.charts && (b && list_all (takes_row (with_numbered first beat)) beat.rows))
-      (ap (λ (r : Registry). all_taken takes_dimension with_dimension r beat.dimensions) (sym mid_is) ∙ e)
-      ∙ and-no (all_taken takes_chart with_chart first beat.charts)
-
   module _ (last : Registry) (last_is : last ≡ with_dimensions mid beat.dimensions) where
     pub last-numbered : last ≡ with_numbered first beat
     last-numbered = last_is ∙ ap (λ (r : Registry). with_dimensions r beat.dimensions) mid_is

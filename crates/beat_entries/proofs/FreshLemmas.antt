@@ -1,18 +1,12 @@
 -- Things that stand apart, put one by one, and what of a beat is new.
-use Rattle.std.proofs.Common.{◌≡◌, ℕ, zero, suc, ◌+◌, ◌<◌, Bool, true, false, cond, not, ◌&&◌, ◌||◌, List, [], ◌∷◌, ◌++◌, length, take, get_or, refl, sym, ap, ◌∙◌, arith, if◌then◌else◌}
+use Rattle.std.proofs.Common.{◌≡◌, ℕ, zero, suc, ◌+◌, ◌<◌, Bool, true, false, cond, ◌&&◌, ◌||◌, List, [], ◌∷◌, ◌++◌, length, take, get_or, refl, sym, ap, ◌∙◌, arith, if◌then◌else◌}
 use Rattle.std.specs.List.{filter, list_any, count_by}
-use Rattle.std.specs.Str.{bytes_eq}
-use Rattle.std.proofs.lemmas.Bool.{and_parts}
 use Rattle.std.proofs.lemmas.List.{append-nil, take_more}
 use Rattle.std.proofs.lemmas.List.Elements.{filter_more}
 use Rattle.std.proofs.lemmas.List.Sums.{sum_by-cons}
-use Rattle.std.proofs.lemmas.Map.Views.{any-filter_same}
-use Rattle.history.specs.declared.beat.OpenDim.{OpenDim}
 use Rattle.history.specs.Put.{put}
-use Rattle.history.specs.Refusal.{is_new_dimension}
 use Rattle.history.specs.Registry.{Registry, is_dimension}
 use Rattle.chart_registry.proofs.RegistryLemmas.{or_false}
-use Rattle.chart_registry.proofs.RowsLemmas.{same_text}
 use Rattle.history.specs.Regular.{AreApart}
 use Rattle.chart_registry.proofs.ApartLemmas.{any-filter}
 use Rattle.beat_entries.proofs.PutLemmas.{turned}
@@ -67,10 +61,6 @@ module _ {A : Type 0} (q : A → Bool) (xs : List A) (n : ℕ) (x : A) (within :
       ∙ append-nil (filter q (take n xs)))
 
 -- ---- the dimensions of a beat that are new
-known-or : (a b : Bool) → (a || (not a && b)) ≡ (a || b)
-known-or true b = refl
-known-or false b = refl
-
 pub count-filter : {A : Type 0} (p q : A → Bool) (xs : List A) → count_by p (filter q xs) ≡ count_by (λ x. p x && q x) xs
 count-filter p q [] = refl
 count-filter p q (x ∷ xs) = by (q x) (count-filter p q xs) ∙ sym (sum_by-cons (λ x. cond (p x && q x) 1 0) x xs)
@@ -91,14 +81,3 @@ count-filter p q (x ∷ xs) = by (q x) (count-filter p q xs) ∙ sym (sum_by-con
 module _ (registry : Registry) (chart id : List ℕ) where
   abbrev known : Bool
   known = list_any (is_dimension chart id) registry.dimensions
-
-  is-new : (dimension : OpenDim) → is_dimension chart id dimension ≡ true → is_new_dimension registry dimension ≡ not known
-  is-new dimension e =
-      let parts = and_parts (bytes_eq chart dimension.chart) (bytes_eq id dimension.def.id) e in
-      λ i. not (list_any (is_dimension (sym (same_text chart dimension.chart parts.0) i) (sym (same_text id dimension.def.id parts.1) i)) registry.dimensions)
-
-  -- a dimension is known or new exactly where it is known or defined
-  pub known-or_fresh : (dimensions : List OpenDim) → (known || list_any (is_dimension chart id) (filter (is_new_dimension registry) dimensions)) ≡ (known || list_any (is_dimension chart id) dimensions)
-  known-or_fresh dimensions =
-      ap (λ b. known || b) (any-filter_same (is_dimension chart id) (is_new_dimension registry) (not known) is-new dimensions)
-      ∙ known-or known (list_any (is_dimension chart id) dimensions)

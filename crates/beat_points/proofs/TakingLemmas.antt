@@ -24,9 +24,6 @@ module _ (moment : ℕ) where
   noted-or None earlier before = refl
   noted-or (Some value) earlier before = refl
 
-  pub takes-none : (old : List (Option Last)) → Takes moment [] old old
-  takes-none old = record { rows_are = λ series. refl; length_is = refl }
-
   takes-then : (xs ys : List Value) (old mid new : List (Option Last)) → Takes moment xs old mid → Takes moment ys mid new → Takes moment (xs ++ ys) old new
   takes-then xs ys old mid new first then = record {
     rows_are = λ series.

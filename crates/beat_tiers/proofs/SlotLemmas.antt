@@ -1,7 +1,7 @@
 -- The slots of a bucket by series: what a slot more, and a record in a slot, makes of their records.
-use Rattle.std.proofs.Common.{◌≡◌, ℕ, suc, ◌≤◌, ◌==◌, ◌||◌, Bool, true, false, cond, List, [], ◌∷◌, length, Option, Some, None, is_some, IsSome, Result, Ok, Err, IfOk, OnOk, OnErr, arith, refl, sym, ap, subst, ◌∙◌}
+use Rattle.std.proofs.Common.{◌≡◌, ℕ, suc, ◌≤◌, ◌==◌, ◌||◌, Bool, true, false, cond, List, [], ◌∷◌, length, Option, Some, None, is_some, IsSome, Result, Ok, Err, IfOk, OnOk, OnErr, arith, refl, sym, ap, ◌∙◌}
 use Rattle.std.specs.BTreeMap.{insert_entry, is_at}
-use Rattle.std.specs.List.{AllByRecursion, list_any}
+use Rattle.std.specs.List.{AllByRecursion}
 use Rattle.std.specs.List.Sorted.{IsStrictlySortedBy}
 use Rattle.std.specs.Map.{keys_of, lookup}
 use Rattle.std.specs.Option.{option_and_then}
@@ -190,12 +190,3 @@ pub room_behind : {E : Type 0} (result : Result (Unit {0}) E) (last moment : ℕ
 room_behind (Ok done) last moment points held is room have =
     (λ e. ((omega (arith, filled_few held.slots, room.0), room.1), have), λ e. let no : false ≡ true = sym e ∙ is in absurd cc)
 room_behind (Err failed) last moment points held is room have = tt
-
--- slots of the same series serve the same points
-pub slots_same : (slots others : List Slot) (points : List BeatPoint) → keys_of slots ≡ keys_of others → HaveSlots slots points → HaveSlots others points
-slots_same slots others points same have = subst (λ (keys : List ℕ). AllByRecursion (λ (point : BeatPoint). list_any (λ key. point.series == key) keys ≡ true) points) same have
-
--- with slots for more series, those that served points still do
-pub slots_more : (slots others : List Slot) (points : List BeatPoint) → ((series : ℕ) → has_slot slots series ≡ true → has_slot others series ≡ true) → HaveSlots slots points → HaveSlots others points
-slots_more slots others [] more have = tt
-slots_more slots others (point ∷ points) more have = (more point.series have.0, slots_more slots others points more have.1)

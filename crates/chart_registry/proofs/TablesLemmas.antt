@@ -157,11 +157,6 @@ module _ (defs : List OpenDim) (def : OpenDim) where
     pub dimension-added : FindsDimensions new (defs ++ def ∷ [])
     dimension-added = record { finds = found-added; counts = counts-added }
 
--- tables that are kept find what they found
-pub dimensions-kept : {S : Type 0} (defs : List OpenDim) (old new : List (String Global × IndexMap (String Global) ℕ S)) → KeepsTables old new → FindsDimensions old defs → FindsDimensions new defs
-dimensions-kept defs old new keeps finds = record {
-  finds = λ chart id. ap (λ table. place_in table id) (keeps chart) ∙ finds.finds chart id;
-  counts = λ chart. ap length (keeps chart) ∙ finds.counts chart;
 }
 
 -- ---- tables of places

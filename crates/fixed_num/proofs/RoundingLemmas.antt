@@ -105,13 +105,6 @@ nearest_unique n d a b positive p q =
 pub half_even_unique : (n d m : ℕ) → 0 < d → IsNearest n d m → half_even n d ≡ m
 half_even_unique n d m positive p = nearest_unique n d (half_even n d) m positive (half_even_nearest n d positive) p
 
--- a common factor changes nothing
-pub half_even_scale : (n d k : ℕ) → 0 < d → 0 < k → half_even (n * k) (d * k) ≡ half_even n d
-half_even_scale n d k dpos kpos =
-    le_antisymm
-    (half_even_mono (n * k) (d * k) n d (mul-pos dpos kpos) dpos (omega arith))
-    (half_even_mono n d (n * k) (d * k) dpos (mul-pos dpos kpos) (omega arith))
-
 pub half_even_whole : (m d : ℕ) → 0 < d → half_even (m * d) d ≡ m
 half_even_whole m d positive =
     half_even_unique (m * d) d m positive (record { above = omega arith; below = omega arith; even = λ t. elim t [ inl a ↦ omega arith | inr b ↦ omega arith ] })

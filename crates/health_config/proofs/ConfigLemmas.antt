@@ -1,5 +1,5 @@
 -- The entities that are left, behind what was read.
-use Rattle.std.proofs.Common.{◌≡◌, ℕ, ◌+◌, Bool, true, false, List, [], ◌∷◌, ◌++◌, take, drop, map, Option, Some, None, is_some, Result, Ok, Err, refl, sym, ap, ◌∙◌, arith, append_assoc}
+use Rattle.std.proofs.Common.{◌≡◌, ℕ, ◌+◌, Bool, true, List, [], ◌∷◌, ◌++◌, take, drop, map, Option, Some, None, is_some, Result, Ok, Err, refl, sym, ap, ◌∙◌, arith, append_assoc}
 use Rattle.std.specs.Option.{option_map, option_to_list}
 use Rattle.health_config.specs.declared.entity.Entity.{Entity}
 use Rattle.health_config.specs.declared.fault.ConfigFault.{ConfigFault}
@@ -7,11 +7,11 @@ use Rattle.health_config.specs.declared.fault.ConfigFault.TheVariants.{BadLine, 
 use Rattle.health_config.specs.declared.tally.Tally.{Tally}
 use Rattle.health_config.specs.declared.lines.Line.{Line}
 use Rattle.health_config.specs.Config.{Configuration, both, entity, entities, prefix_skipped, none_but, then_entities, of_sections, of_draft, ended, ended_by, tally_of, Adds, IsFound}
-use Rattle.health_config.specs.Draft.{Draft, draft_read}
+use Rattle.health_config.specs.Draft.{Draft}
 use Rattle.health_config.specs.Entity.{Alarm, alarm, alarm_of}
 use Rattle.health_config.specs.Fault.{◌>>=◌, IsRefusalFor}
 use Rattle.health_config.specs.Key.{begins}
-use Rattle.health_config.specs.Sections.{Group, Sections, section, sections}
+use Rattle.health_config.specs.Sections.{Group, section, sections}
 use Rattle.health_config.proofs.SectionsLemmas.{leading_len, prefix_is, groups_are}
 
 both-assoc : (a b c : Configuration) → both a (both b c) ≡ both (both a b) c
@@ -54,15 +54,6 @@ module _ (before : ℕ) (done : Configuration) (lines : List Line) (template : B
   entity_refused fault read =
       found_first
       ∙ ap (λ (r : Result Configuration ConfigFault). then_entities done (r >>= λ first. entities (before + 1) (sections (drop (leading_len behind) behind)).groups >>= λ more. Ok (both first more))) read
-
--- lines that begin with no entity's have others before the first entity's
-some_by : (head : Line) (all : Sections) → (section None head all).prefix ≡ [] → ⊥
-some_by head all none = cc
-
-pub some_before : (lines : List Line) (head : Line) (behind : List Line) → lines ≡ head ∷ behind → None ≡ begins head.text → (sections lines).prefix ≡ [] → ⊥
-some_before lines head behind whole other none =
-    some_by head (sections behind)
-    (ap (λ (o : Option Bool). (section o head (sections behind)).prefix) other ∙ ap (λ (all : List Line). (sections all).prefix) (sym whole) ∙ none)
 
 ended_some : (on : Option (List ℕ)) (line : ℕ) (config : Configuration) → is_some on ≡ true → ended_by on line config ≡ Ok config
 ended_some None line config some = cc
@@ -107,9 +98,6 @@ module _ (lines prefix : List Line) (cut : prefix ≡ take (leading_len lines) l
   prefix_taken skipped rest read is =
       ap (λ (r : Result ℕ ConfigFault). r >>= λ skipped. then_entities (none_but skipped) (entities 0 (sections lines).groups)) (prefix_read ∙ read)
       ∙ ap (λ (groups : List Group). then_entities (none_but skipped) (entities 0 groups)) (groups_are lines ∙ ap (λ (all : List Line). (sections all).groups) (sym is))
-
-pub prefix_alike : (prefix : List Line) (fault : ConfigFault) → draft_read false prefix ≡ Err fault → prefix_skipped prefix ≡ Err fault
-prefix_alike prefix fault read = ap (λ (r : Result Draft ConfigFault). r >>= λ draft. Ok draft.skipped) read
 
 -- nothing was read but what was skipped
 pub none_read : (alarms : List Entity) (skipped : ℕ) → alarms ≡ [] → none_but skipped ≡ tally_of (record { alarms = alarms; skipped = skipped })

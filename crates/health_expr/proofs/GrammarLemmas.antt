@@ -17,13 +17,6 @@ use Rattle.health_expr.specs.Words.{Placed, first, after, sees}
 pub reads_as : (read other : Outcome) (result : Result Expr ExprFault) (behind : List Placed) → other ≡ read → Reads read result behind → Reads other result behind
 reads_as read other result behind e is = subst (λ (o : Outcome). Reads o result behind) (sym e) is
 
--- a fault ends all that would be read behind it
-pub fails_on : (fault : ExprFault) (read : Outcome) (f : Tree → Reader) → Fails fault read → Fails fault (read >>= f)
-fails_on (Syntax place) read f is = ap (λ (o : Outcome). o >>= f) is
-fails_on TooDeep read f is = ap (λ (o : Outcome). o >>= f) is
-fails_on NumberTooWide read f is = ap (λ (o : Outcome). o >>= f) is
-fails_on Memory read f is = tt
-
 -- ---- levels
 
 pub operand_none : (levels : ℕ) (ws : List Placed) → levels ≡ 0 → operand levels ws ≡ blocked ws

@@ -195,11 +195,6 @@ tells _ _ _ _ (chosen levels question colon condition if_true if_false one two t
 
 -- ---- the same words in front
 
--- where the words in front lead
-landing : List Kind → Place → Place
-landing [] place = place
-landing (kind ∷ kinds) place = landing kinds (place_step place kind).1
-
 places-append : (front more : List Kind) (place : Place) → (rest : List ℕ) × (places (front ++ more) place ≡ places front place ++ rest)
 places-append [] more place = (places more place, refl)
 places-append (kind ∷ front) more place =

@@ -1,5 +1,5 @@
 -- The words of a text, from one to the next.
-use Rattle.std.proofs.Common.{◌≡◌, ◌≢◌, ◌==◌, ◌<◌, ◌≤◌, ◌^◌, ℕ, zero, suc, ◌+◌, ◌-◌, Bool, true, false, ◌&&◌, nat_lt, cond, List, [], ◌∷◌, length, drop, position, Option, Some, None, arith, subst, sym, refl, ap, ◌∙◌, one-add, add-zero, lit<}
+use Rattle.std.proofs.Common.{◌≡◌, ◌≢◌, ◌==◌, ◌<◌, ◌≤◌, ℕ, zero, suc, ◌+◌, ◌-◌, Bool, true, false, ◌&&◌, nat_lt, cond, List, [], ◌∷◌, length, drop, position, Option, Some, None, arith, subst, sym, refl, ap, ◌∙◌, one-add, add-zero, lit<}
 use Rattle.std.proofs.lemmas.Bool.Decides.{nat_tests}
 use Rattle.std.proofs.lemmas.List.{length-drop}
 use Rattle.std.proofs.lemmas.List.Sums.{prefix_len-le-length}
@@ -13,7 +13,6 @@ use Rattle.health_expr.specs.declared.cursor.Words.TheInside.{Inside}
 use Rattle.words.specs.Words.{is_blank}
 use Rattle.health_expr.specs.Cut.{Cut, is_letter, is_brace, digits_len, decimals_len, unknown, braced, named, dollar, number, letters, single, mark, marked, first_word}
 use Rattle.health_expr.specs.Cursor.{words_ahead, IsReady}
-use Rattle.health_expr.specs.Word.{Is}
 use Rattle.health_expr.specs.Words.{Placed, placed, words_from, words_of, first, after}
 
 -- ---- how long a word is
@@ -213,9 +212,6 @@ behind inside now ahead is ready more stripped_is =
           ∙ ap after is,
       ap (λ (bytes : List ℕ). prefix_len is_blank bytes) ahead_is ∙ stripped (drop len text),
     )
-
-pub ready_at : (text : List ℕ) (inside : Inside) → prefix_len is_blank inside.ahead.now ≡ 0 → Is (first_word inside.ahead.now) inside.ahead.now inside.word → inside.place + length inside.ahead.now ≤ length text → length text < 2 ^ 64 → IsReady inside
-ready_at text inside none next fits bound = record { no_blank = none; next = next; fits = omega arith }
 
 -- what a new reader has before it
 pub begun : (text ahead : List ℕ) → ahead ≡ drop (prefix_len is_blank text) text → words_from 0 (length text - length ahead) ahead ≡ words_of text

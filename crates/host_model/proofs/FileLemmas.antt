@@ -1,6 +1,6 @@
 -- what a crash may leave of one file, from what has happened to it since its last sync
 use Rattle.std.proofs.Common.{◌≡◌, ℕ, ◌+◌, ◌<◌, ◌≤◌, List, [], ◌∷◌, ◌++◌, length, max, take, drop, refl, sym, ap, ◌∙◌, inl, inr, arith}
-use Rattle.std.proofs.lemmas.List.{append-nil, append_assoc, length-append, length-take, length-drop, get_or-take, get_or-drop, ext_get_or, take_all, drop_all, take_at, drop_at, drop-drop, take-take, take-append-le}
+use Rattle.std.proofs.lemmas.List.{append-nil, length-append, length-take, length-drop, get_or-take, get_or-drop, ext_get_or, take_all, drop_all, take_at, drop_at, drop-drop, take-take, take-append-le}
 use Rattle.host_model.specs.Images.{Change, Wrote, Cut, Synced, contents, written, synced, least, greatest, IsUntouched, IsImage, IsSynced}
 
 -- a file with no change since its last sync has one image, and that is what it reads as
@@ -170,21 +170,6 @@ take-written old at bytes from before within =
     take-append-le from (take at old ++ bytes) (drop (at + length bytes) old) (omega (arith, length-append (take at old) bytes))
     ∙ take-append-le from (take at old) bytes (omega arith)
     ∙ take-take from at old before
-
--- what stands behind the written bytes stays
-pub drop-written : (old : List ℕ) (at : ℕ) (bytes : List ℕ) → at ≤ length old → drop (at + length bytes) (written old at bytes) ≡ drop (at + length bytes) old
-drop-written old at bytes within =
-    let size : length (take at old ++ bytes) ≡ at + length bytes = omega (arith, length-append (take at old) bytes, length-take at old) in
-    drop_at (take at old ++ bytes) (drop (at + length bytes) old) (at + length bytes) size
-
--- the written bytes are there
-pub read-written : (old : List ℕ) (at : ℕ) (bytes : List ℕ) → at ≤ length old → take (length bytes) (drop at (written old at bytes)) ≡ bytes
-read-written old at bytes within =
-    let size : length (take at old) ≡ at = omega (arith, length-take at old) in
-    let rest : drop at (written old at bytes) ≡ bytes ++ drop (at + length bytes) old =
-    ap (λ (l : List ℕ). drop at l) (append_assoc (take at old) bytes (drop (at + length bytes) old))
-    ∙ drop_at (take at old) (bytes ++ drop (at + length bytes) old) at size in
-    ap (λ (l : List ℕ). take (length bytes) l) rest ∙ take_at bytes (drop (at + length bytes) old) (length bytes) refl
 
 -- bytes written behind the prefix of a list
 pub written-behind : (prefix rest : List ℕ) (at : ℕ) (bytes : List ℕ) → length prefix ≡ at

@@ -2,9 +2,9 @@
 use Rattle.std.proofs.Common.{◌≡◌, ℕ, Bool, true, false, cond, eq-eqb, List, [], ◌∷◌, ◌++◌, length, take, refl, sym, ap, ◌∙◌, subst, arith, append_assoc, append-nil, length-append}
 use Rattle.std.proofs.lemmas.List.{take_all, nil_from_length}
 use Rattle.host_model.specs.declared.file.File.{File}
-use Rattle.host_model.specs.Images.{Change, IsImage}
+use Rattle.host_model.specs.Images.{Change}
 use Rattle.host_model.specs.Past.{Event, On, Told, file_number, is_same, IsOther, of, told, IsText}
-use Rattle.host_model.specs.Moments.{Throughout, begins, goes_on, EveryImage, EveryCrash, OnlyOn}
+use Rattle.host_model.specs.Moments.{Throughout, begins, goes_on, OnlyOn}
 
 -- the new past has grown from the old one
 pub record Grows (old new : List Event) : Type 0 where
@@ -16,10 +16,6 @@ Grows-same past = record { more = []; whole = refl }
 
 Grows-event : (event : Event) (old past : List Event) → Grows old past → Grows old (event ∷ past)
 Grows-event event old past grown = record { more = event ∷ grown.more; whole = ap (λ (l : List Event). event ∷ l) grown.whole }
-
--- one event before what has come
-Grows-after : (event : Event) (past new : List Event) → Grows (event ∷ past) new → Grows past new
-Grows-after event past new grown = record { more = grown.more ++ event ∷ []; whole = grown.whole ∙ sym (append_assoc grown.more (event ∷ []) past) }
 
 -- moments
 
@@ -126,31 +122,6 @@ pub text_at_start : (old past : List Event) → Grows old past → told past ≡
 text_at_start old past grew same text there =
     text_before old grew.more (sym (ap told grew.whole) ∙ same) text (subst (λ p. IsText p text) grew.whole there)
 
--- from one file to the whole disk and the output: what is shown of the images of the one file, those
--- of the others at the start, and what may have been told at the start, holds at each crash
-pub whole_disk : {A : List ℕ → Type 0} {P : (File → List ℕ) → List ℕ → Type 0} {old new : List Event} (file : File)
-    → OnlyOn file old new
-    → ((disk : File → List ℕ) (text : List ℕ) → A (disk file) → ((other : File) → IsOther other file → IsImage (of other old) (disk other)) → IsText old text → P disk text)
-    → Throughout (EveryImage file A) old new
-    → Throughout (EveryCrash P) old new
-whole_disk {A} {P} {old} {new} file only shows moments =
-    strengthened (λ past from_old to_new held disk text images told_by.
-    let here = only_on_each file old past new only from_old to_new in
-    shows disk text (held (disk file) (images file))
-    (λ other apart. subst (λ changes. IsImage changes (disk other)) (here.others other apart) (images other))
-    (text_at_start old past from_old here.output text told_by)) moments
-
--- the same where nothing is said of the one file
-pub other_files : {P : (File → List ℕ) → List ℕ → Type 0} {old new : List Event} (file : File)
-    → ((disk : File → List ℕ) (text : List ℕ) → ((other : File) → IsOther other file → IsImage (of other old) (disk other)) → IsText old text → P disk text)
-    → Throughout (OnlyOn file old) old new
-    → Throughout (EveryCrash P) old new
-other_files {P} {old} {new} file shows moments =
-    strengthened (λ past from_old to_new here disk text images told_by.
-    shows disk text
-    (λ other apart. subst (λ changes. IsImage changes (disk other)) (here.others other apart) (images other))
-    (text_at_start old past from_old here.output text told_by)) moments
-
 -- frames
 pub OnlyOn-same : (file : File) (past : List Event) → OnlyOn file past past
 OnlyOn-same file past = record { others = λ other apart. refl; output = refl }
@@ -166,12 +137,6 @@ OnlyOn-joined file old past new first second = record {
   others = λ other apart. second.others other apart ∙ first.others other apart;
   output = second.output ∙ first.output;
 }
-
--- a fact about the images of another file is kept at each moment
-pub image_elsewhere : {A : List ℕ → Type 0} {old new : List Event} (file other : File) → IsOther other file → OnlyOn file old new → Grows old new
-    → EveryImage other A old → Throughout (OnlyOn file old) old new → Throughout (EveryImage other A) old new
-image_elsewhere {A} {old} {new} file other apart only grew held moments =
-    weakened (λ past here bytes image. held bytes (subst (λ changes. IsImage changes bytes) (here.others other apart) image)) moments
 
 -- at each moment nothing happened to another file
 pub only_on_throughout : {P : List Event → Type 0} {old new : List Event} (file : File) → OnlyOn file old new → Throughout P old new → Throughout (OnlyOn file old) old new

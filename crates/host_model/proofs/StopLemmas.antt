@@ -1,14 +1,13 @@
 -- a new host that gets what a crash leaves, file by file
-use Rattle.std.proofs.Common.{◌≡◌, ◌≢◌, eq-eqb, lit<, ℕ, ◌+◌, ◌<◌, ◌≤◌, Bool, true, false, List, [], ◌∷◌, ◌++◌, length, None, refl, sym, ap, ◌∙◌, subst, arith, append-nil}
+use Rattle.std.proofs.Common.{◌≡◌, ◌≢◌, eq-eqb, ℕ, ◌+◌, ◌<◌, ◌≤◌, Bool, true, false, List, [], ◌∷◌, ◌++◌, length, None, refl, sym, ap, ◌∙◌, subst, arith, append-nil}
 use Rattle.std.proofs.lemmas.Bool.{eqb-true, false≢true}
 use Rattle.std.proofs.lemmas.List.{drop_all}
 use Rattle.host_model.specs.declared.file.File.{File}
-use Rattle.host_model.specs.declared.file.File.TheVariants.{CheckA, CheckB, JournalA, JournalB, Tier0, Tier1, Tier2, Tier3, Tier4}
 use Rattle.host_model.specs.declared.keep.Keep.{Keep}
 use Rattle.host_model.specs.Images.{Change, Wrote, Synced, contents, written, IsSynced}
 use Rattle.host_model.specs.Past.{Event, On, file_number, is_same, of, told}
 use Rattle.host_model.specs.HostState.{HostState, new_host, write_event}
-use Rattle.host_model.specs.Keep.{IsLeftBy, IsStopped}
+use Rattle.host_model.specs.Keep.{IsLeftBy}
 use Rattle.host_model.specs.DiskLaw.{same_file}
 
 -- the files below this number are as the crash leaves them, and nothing has happened to the others
@@ -82,21 +81,4 @@ Settling-more keep old new number file bytes here left before = record {
   fresh = ap (λ (host : HostState). record host { past = put_down new.past file bytes }) before.fresh;
 }
 
-file_number-below : (file : File) → file_number file < 9
-file_number-below CheckA = lit< tt
-file_number-below CheckB = lit< tt
-file_number-below JournalA = lit< tt
-file_number-below JournalB = lit< tt
-file_number-below Tier0 = lit< tt
-file_number-below Tier1 = lit< tt
-file_number-below Tier2 = lit< tt
-file_number-below Tier3 = lit< tt
-file_number-below Tier4 = lit< tt
-
-pub Settling-all : (keep : Keep) (old new : HostState) → Settling keep old new 9 → IsStopped keep old new
-Settling-all keep old new settled = record {
-  files = λ file. settled.files file (file_number-below file);
-  stable = settled.stable;
-  output = settled.output;
-  fresh = settled.fresh;
 }

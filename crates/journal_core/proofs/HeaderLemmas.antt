@@ -1,6 +1,6 @@
 -- where the header of a journal is not there
 use Rattle.std.proofs.Common.{◌≡◌, ◌≢◌, ℕ, ◌+◌, ◌<◌, ◌≤◌, List, [], ◌∷◌, ◌++◌, length, min, take, drop, get_or, sym, ap, ◌∙◌, arith, append_assoc, length-append}
-use Rattle.std.proofs.lemmas.List.{take_all, take-take, take-append-drop, get_or-take, get_or_append_left, length-take}
+use Rattle.std.proofs.lemmas.List.{take-take, take-append-drop, get_or-take, get_or_append_left, length-take}
 use Rattle.journal_core.specs.Form.{header, opened, IsJournal, FailsAt}
 use Rattle.journal_core.proofs.FormLemmas.{length-header}
 
@@ -62,15 +62,3 @@ header_seen_fails generation bytes seen count same size is_seen within agrees di
     let before : same < count = omega arith in
     differs (omega arith) (omega (arith, length-header generation))
     (ap (λ (l : List ℕ). get_or l same 0) is_seen ∙ get_or-take count bytes same 0 before ∙ e))
-
-pub header_seen : (generation : ℕ) (bytes seen : List ℕ) (count same : ℕ) → count ≤ 16 → seen ≡ take count bytes
-    → same ≤ length seen → take same seen ≡ take same (header generation) → 16 ≤ same
-    → bytes ≡ header generation ++ drop 16 bytes
-header_seen generation bytes seen count same size is_seen within agrees all =
-    let exact : same ≡ 16 = omega (arith, ap length is_seen, length-take count bytes) in
-    let whole : count ≡ 16 = omega (arith, ap length is_seen, length-take count bytes) in
-    let prefix : take 16 bytes ≡ header generation =
-    sym (ap (λ (l : List ℕ). take 16 l) is_seen ∙ take-take 16 count bytes (omega arith))
-    ∙ ap (λ (n : ℕ). take n seen) (sym exact) ∙ agrees ∙ ap (λ (n : ℕ). take n (header generation)) exact
-    ∙ take_all 16 (header generation) (omega (arith, length-header generation)) in
-    sym (take-append-drop 16 bytes) ∙ ap (λ (l : List ℕ). l ++ drop 16 bytes) prefix

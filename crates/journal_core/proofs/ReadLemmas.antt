@@ -5,9 +5,9 @@ use Rattle.std.proofs.Math.Seq.{take-append-add}
 use Rattle.std.proofs.lemmas.List.{take-append-drop, drop-drop, drop_at, length-drop}
 use Rattle.journal_core.specs.declared.fault.JournalFault.{JournalFault}
 use Rattle.journal_core.specs.declared.fault.JournalFault.TheVariants.{DiskFault, TooLong, NotAJournal, Memory}
-use Rattle.journal_core.specs.declared.reading.Next.TheVariants.{Closed, Record}
+use Rattle.journal_core.specs.declared.reading.Next.TheVariants.{Record}
 use Rattle.journal_core.specs.Form.{header, length_field, opened, IsShort, StandsFor, GoesOn, FailsAt}
-use Rattle.journal_core.specs.Reading.{Tail, TailGoesOn, TailFails, BeginsWith, BeginsWithRecord, FailsFrom, Holds, IfNotAJournal}
+use Rattle.journal_core.specs.Reading.{Tail, TailGoesOn, TailFails, BeginsWith, BeginsWithRecord, FailsFrom, IfNotAJournal}
 use Rattle.journal_core.proofs.FormLemmas.{length-header, length-length_field, opened-more, length-opened_more, short-more}
 use Rattle.journal_core.proofs.GrammarLemmas.{tail_of, behind}
 use Rattle.journal_core.proofs.NextLemmas.{fails_in_record}
@@ -75,11 +75,6 @@ tail_stands generation bytes records tail = record {
   fits = tail.fits;
 }
 
-pub holds_stands : (generation : ℕ) (bytes : List ℕ) (place : ℕ) (records : List (List ℕ)) → bytes ≡ header generation ++ drop 16 bytes → Holds bytes place records
-    → StandsFor generation bytes records
-holds_stands generation bytes place records form holds =
-    subst (λ (l : List ℕ). StandsFor generation l records) (sym form) (tail_stands generation (drop 16 bytes) records holds.tail)
-
 header_goes_on : (generation : ℕ) (bytes : List ℕ) → TailGoesOn bytes → GoesOn generation (header generation ++ bytes)
 header_goes_on generation bytes on = (
   on.0,
@@ -124,9 +119,6 @@ pub record Reached (bytes : List ℕ) (place : ℕ) (records : List (List ℕ)) 
   pub size : place ≡ 16 + length (opened records)
   pub fits : AllByRecursion IsShort records
 
-pub reached_first : (bytes : List ℕ) → Reached bytes 16 []
-reached_first bytes = record { form = refl; size = refl; fits = tt }
-
 pub reached_more : (bytes : List ℕ) (place : ℕ) (records : List (List ℕ)) (body : List ℕ) → Reached bytes place records → BeginsWithRecord (drop place bytes) (Some body) → IsShort body
     → Reached bytes (place + (5 + length body)) (records ++ body ∷ [])
 reached_more bytes place records body reached begins short =
@@ -142,16 +134,6 @@ reached_more bytes place records body reached begins short =
       fits = short-more records body reached.fits short;
     }
 
-pub reached_end : (bytes : List ℕ) (place : ℕ) (records : List (List ℕ)) → Reached bytes place records → BeginsWith (drop place bytes) Closed → Holds bytes place records
-reached_end bytes place records reached begins = record {
-  tail = record {
-    gate = begins.0;
-    rest = begins.1;
-    form = reached.form ∙ ap (λ (l : List ℕ). opened records ++ l) begins.2;
-    closed = begins.3;
-    fits = reached.fits;
-  };
-  at_gate = reached.size;
 }
 
 pub reached_fails : (bytes : List ℕ) (place end : ℕ) (records : List (List ℕ)) → Reached bytes place records → FailsFrom place bytes end → FailsFrom 16 bytes end

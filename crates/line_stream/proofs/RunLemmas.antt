@@ -7,7 +7,7 @@ use Rattle.history.specs.Limits.{is_line_feed, is_one_line}
 use Rattle.host_model.specs.Cause.{Rose}
 use Rattle.host_model.specs.Source.{Takes}
 use Rattle.host_model.specs.declared.status.Status.{Status}
-use Rattle.host_model.specs.declared.status.Status.TheVariants.{ReadFault, InputLimit, Memory}
+use Rattle.host_model.specs.declared.status.Status.TheVariants.{InputLimit, Memory}
 use Rattle.plugin_text.specs.Lines.{parts, lines, rest, fits, but_last, last_part, HasNoLongLine, IsLongAfter, IsRest}
 use Rattle.plugin_text.proofs.LongLemmas.{AllPass-prefix, AllPass-lines, HasNoLongLine-append, IsLongAfter-later}
 use Rattle.plugin_text.proofs.OneLineLemmas.{parts-one_line}
@@ -274,13 +274,6 @@ count-within acts start begin stream text taker host has within = omega (arith, 
 -- ---- one step of a run
 
 module _ {T H : Type 0} (acts : Acts T H) (start : T) (begin : H) (stream : Stream) (text : List ℕ) (taker : T) (host : H) (has : HasTaken acts stream start begin text taker host) where
-  -- the source failed
-  pub fault-stops : (left left' : Option (List ℕ)) (source_rose : Type 0) → left' ≡ left → source_rose → length text < input_limit → Stops acts ReadFault start begin text taker host left left' source_rose
-  fault-stops left left' source_rose same rose within = record {
-    bytes = [];
-    takes = subst (λ (l : Option (List ℕ)). Takes left [] l) (sym same) (Takes-none left);
-    within = omega (arith, length-append text [], within);
-    ended = subst (λ (all : List ℕ). Ended acts ReadFault start begin all taker host left' source_rose) (sym (append-nil text)) (at_fault refl rose within has.took has.paused);
   }
 
   -- the taker was told the end
@@ -308,7 +301,3 @@ piece-stops acts start begin status text bytes new host' left left' source_rose 
   within = omega (arith, length-append text bytes, within);
   ended = ended-later acts status start begin (text ++ bytes) new host' left' ⊥ source_rose (λ never. absurd never) ended;
 }
-
--- the run goes on
-pub piece-steps : (Held : List ℕ → Type 0) (text bytes : List ℕ) (size : ℕ) (left left' : Option (List ℕ)) → Takes left bytes left' → length bytes ≡ size → Held (text ++ bytes) → Steps Held size text left left'
-piece-steps Held text bytes size left left' takes is held = record { bytes = bytes; takes = takes; size_is = is; held = held }

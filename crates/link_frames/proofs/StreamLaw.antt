@@ -2,7 +2,7 @@
 use Rattle.std.proofs.Common.{◌≡◌, ℕ, ◌+◌, ◌≤◌, List, [], ◌∷◌, ◌++◌, length, take, drop, refl, sym, ap, subst, ◌∙◌, append_assoc, arith}
 use Rattle.std.specs.List.{concat, flat_map, AllByRecursion}
 use Rattle.std.proofs.lemmas.Grind.{flat_map-append}
-use Rattle.std.proofs.lemmas.List.{append-nil, drop-append-le, drop_at, length-append, length-drop, take-append-drop, take-append-le, take_all, take_at}
+use Rattle.std.proofs.lemmas.List.{append-nil, drop-append-le, drop_at, length-append, length-drop, take-append-drop, take-append-le, take_at}
 use Rattle.std.proofs.lemmas.List.Concat.{flat_map-cons}
 use Rattle.byteorder.specs.Numbers.{little_from-take, little_number-reads_back}
 use Rattle.list_lemmas.proofs.Every.{all-append}
@@ -11,7 +11,7 @@ use Rattle.field_codec.specs.Spelling.{u32_bytes, sized_bytes}
 use Rattle.field_codec.proofs.Lengths.{length-u32_bytes}
 use Rattle.field_codec.proofs.Numbers.{little_bytes-little_number}
 use Rattle.link_frames.specs.declared.frame.Frame.{Frame}
-use Rattle.link_frames.specs.Frames.{body_bytes, body_limit, frame_bytes, HasSpelling, IsNoBody}
+use Rattle.link_frames.specs.Frames.{body_bytes, frame_bytes, HasSpelling, IsNoBody}
 use Rattle.link_frames.specs.Stream.{Feeds, HandsOut, HasNoFrame, IsBad, IsOpen, IsTooLong, body, said}
 use Rattle.link_frames.proofs.FramesLaw.{one_frame, one_end}
 
@@ -198,11 +198,4 @@ frame_is held f fits there whole is =
     sym (take-append-drop 4 held) ∙ ap (λ (bs : List ℕ). bs ++ drop 4 held) (sym prefix) ∙ ap (λ (bs : List ℕ). u32_bytes (said held) ++ bs) is
     ∙ ap (λ (n : ℕ). u32_bytes n ++ body_bytes f) size
 
--- a body that no frame has
-pub bad_is : (held : List ℕ) → 4 ≤ length held → said held ≤ body_limit → length held ≡ 4 + said held → IsNoBody (drop 4 held) → IsBad held
-bad_is held there short whole none = record {
-  there = there;
-  short = short;
-  whole = omega (arith, whole);
-  none = subst IsNoBody (sym (take_all (said held) (drop 4 held) (omega (arith, length-drop 4 held, whole)))) none;
 }

@@ -19,7 +19,7 @@ use Rattle.link_frames.specs.Stream.{HandsOut, IsBad, IsOpen, IsTooLong}
 use Rattle.link_frames.proofs.StreamLaw.{after, HandsOut_none}
 use Rattle.link_session.specs.declared.incoming.Incoming.{Incoming}
 use Rattle.link_session.specs.declared.fault.SessionFault.{SessionFault}
-use Rattle.link_session.specs.declared.fault.SessionFault.TheVariants.{LinkFault, Ended, InputLimit}
+use Rattle.link_session.specs.declared.fault.SessionFault.TheVariants.{LinkFault, Ended}
 use Rattle.link_session.specs.Incoming.{reading_fault, HasGiven, HasNoMore, IsEndOf, StandsBehind}
 
 -- ---- at first
@@ -122,15 +122,6 @@ module _ (old : Incoming) (left left' : Option (List ℕ)) (frames : List Frame)
         behind = fed.behind;
       }
 
-  -- as many bytes were taken as may be
-  pub at-limit : old.budget ≡ 0 → HasNoMore InputLimit left left' frames
-  at-limit spent = record {
-    taken = given.taken;
-    takes = given.takes;
-    within = omega (arith, given.spent);
-    rest = given.rest;
-    cut = cut-over;
-    why = (held-open.1, omega (arith, given.spent));
   }
 
   -- the link failed, or the peer sends no more

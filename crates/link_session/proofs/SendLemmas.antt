@@ -44,15 +44,6 @@ pub record IsUnderWay (honest : Type 0) (host : Seen) (agent : AgentState) (link
   pub faults : link'.faults ≡ link.faults
 
 -- ---- the result of a session is that of its last frame
-agents-alike : (fault : SessionFault) → IsAgents {T = Unit {0}} (Err fault) → IsAgents {T = Flow} (Err fault)
-agents-alike LinkFault is = is
-agents-alike (Agent fault) is = is
-agents-alike (PeerRefused fault) is = is
-agents-alike Ended is = is
-agents-alike InputLimit is = is
-agents-alike TellFault is = is
-agents-alike Memory is = is
-
 spent-alike : (before : Option Why) (fault : SessionFault) → spent_by {T = Flow} before (Err fault) ≡ spent_by {T = Unit {0}} before (Err fault)
 spent-alike before LinkFault = refl
 spent-alike before (Agent fault) = refl

@@ -1,5 +1,5 @@
 -- One turn of a collector, and the text that it puts.
-use Rattle.std.proofs.Common.{◌≡◌, ℕ, ◌+◌, ◌*◌, ◌<◌, min, List, [], ◌++◌, length, take, Option, Result, Ok, refl, sym, ap, ◌∙◌, subst, inl, inr, length-append, arith}
+use Rattle.std.proofs.Common.{◌≡◌, ℕ, ◌+◌, ◌<◌, min, List, [], ◌++◌, length, take, Option, Result, Ok, refl, sym, ap, ◌∙◌, subst, inl, inr, length-append, arith}
 use Rattle.std.proofs.Math.Seq.{take-append-add}
 use Rattle.std.proofs.lemmas.Bool.{cases_lt}
 use Rattle.std.proofs.lemmas.List.{take_all, length-take-le}
@@ -18,7 +18,6 @@ use Rattle.plugin_runner.specs.Collected.{Collected, Halts, HasTurned, one_turn}
 use Rattle.plugin_runner.specs.Collecting.{HasPut}
 use Rattle.plugin_runner.specs.Course.{Course, IsTold, course_after, text_of}
 use Rattle.plugin_runner.specs.Goes.{Goes, Hears}
-use Rattle.plugin_runner.specs.Patience.{Spends}
 use Rattle.plugin_runner.specs.Reads.{Reads}
 use Rattle.plugin_runner.specs.Runner.{if_lasting, lasting_answer}
 use Rattle.plugin_runner.proofs.StepLemmas.{Reads-append}
@@ -43,14 +42,6 @@ all_is out budget size is below = take_all size out (elim (cases_lt budget (leng
 pub below_limit : (text out : List ℕ) (budget size : ℕ) → length text + budget ≡ input_limit → size ≡ min budget (length out) → (size ≡ budget → ⊥) → length (text ++ take size out) < input_limit
 below_limit text out budget size spent is below =
     elim (cases_lt size budget) [ inl less ↦ omega (arith, length-append text (take size out), size_is out budget size is, spent, less) | inr not_less ↦ absurd (below (omega (arith, is, not_less))) ]
-
-pub size_below : (out : List ℕ) (budget size : ℕ) → size ≡ min budget (length out) → (size ≡ budget → ⊥) → size < budget
-size_below out budget size is below = elim (cases_lt size budget) [ inl less ↦ less | inr not_less ↦ absurd (below (omega (arith, is, not_less))) ]
-
--- a turn that answers More spends patience, or puts bytes that are taken
-pub turn_spends : (old new budget size : ℕ) (before out : List ℕ) → before ≡ [] → size ≡ min budget (length out) → (size ≡ budget → ⊥) → Spends old new before out → new < old + 8194 * size
-turn_spends old new budget size before out none is below spends =
-    omega (arith, ap (λ (l : List ℕ). length l) (all_is out budget size is below), size_is out budget size is, ap (λ (l : List ℕ). length l) none, spends)
 
 -- ---- a turn
 pub ok_is : (answer : Result Turn RunFault) (one other : Turn) → answer ≡ Ok one → one ≡ other → answer ≡ Ok other

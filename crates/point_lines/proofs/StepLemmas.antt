@@ -1,6 +1,5 @@
 -- What a line that was taken changes, and why one was not.
-use Rattle.std.proofs.Common.{◌≡◌, ◌≤◌, ℕ, ◌+◌, Bool, true, false, true≢false, List, [], ◌∷◌, ◌++◌, length, Option, None, is_some, Result, Ok, Err, refl, sym, ap, subst, ◌∙◌, arith}
-use Rattle.std.proofs.lemmas.List.{append-nil}
+use Rattle.std.proofs.Common.{◌≡◌, ◌≤◌, ℕ, ◌+◌, Bool, true, false, true≢false, List, [], ◌∷◌, length, Option, None, is_some, Result, Ok, Err, refl, sym, ap, ◌∙◌, arith}
 use Rattle.std.proofs.lemmas.List.Elements.{All-cons}
 use Rattle.std.specs.Option.{option_map_or}
 use Rattle.history.specs.declared.fault.BlockFault.{BlockFault}
@@ -12,11 +11,7 @@ use Rattle.history.specs.Limits.{keeps_limits}
 use Rattle.history.specs.Read.{is_disable, refusal_at}
 use Rattle.history.specs.Refusal.{refusal as refusal_by}
 use Rattle.history.specs.Registry.{Registry}
-use Rattle.plugin_text.specs.Answer.{IsFaultFor}
-use Rattle.plugin_text.specs.declared.fault.LineFault.{LineFault}
 use Rattle.plugin_text.specs.declared.fault.LineFault.TheVariants as fault
-use Rattle.plugin_text.specs.Line.{line as line_of}
-use Rattle.beat_points.specs.LastRows.{AreLastOf}
 use Rattle.collect_block.specs.declared.feed.Feed.{Feed}
 use Rattle.collect_block.specs.declared.step.Step.{Step}
 use Rattle.collect_block.specs.declared.step.Step.TheVariants as step
@@ -25,9 +20,9 @@ use Rattle.point_lines.specs.declared.reader.Reader.{Reader}
 use Rattle.plugin_text.specs.declared.refusal.Refusal.{Refusal}
 use Rattle.plugin_text.specs.declared.refusal.Refusal.TheVariants as refusal
 use Rattle.point_lines.specs.declared.stop.Stop.TheVariants as stop
-use Rattle.point_lines.specs.Judged.{every, history_of, placed, judged, judge}
-use Rattle.point_lines.specs.Reader.{IsReaderOf, Reads, StopsFor}
-use Rattle.point_lines.specs.Steps.{Stepped, block_stop, line_stop, skips}
+use Rattle.point_lines.specs.Judged.{every, history_of, placed}
+use Rattle.point_lines.specs.Reader.{IsReaderOf, StopsFor}
+use Rattle.point_lines.specs.Steps.{Stepped, block_stop, skips}
 use Rattle.point_lines.specs.Told.{skipped, told_at}
 
 -- ---- the counts
@@ -115,15 +110,6 @@ module _ (past : List Line) (said : Line) where
   stops-block new block.Memory reason is by out = tt
 
 module _ (past : List Line) (bytes : List ℕ) where
-  pub stops-line : (new : Reader) (why : LineFault) → IsFaultFor (line_of bytes) why → (out : List ℕ) → StopsFor new past (judge past bytes) (line_stop why) out out
-  stops-line new fault.LineTooLong is out = (ap (judged past) is, refl)
-  stops-line new fault.NotText is out = (ap (judged past) is, refl)
-  stops-line new fault.OpenQuote is out = (ap (judged past) is, refl)
-  stops-line new fault.MissingWord is out = (ap (judged past) is, refl)
-  stops-line new fault.LongId is out = (ap (judged past) is, refl)
-  stops-line new fault.BadNumber is out = (ap (judged past) is, refl)
-  stops-line new fault.Memory is out = tt
-
 -- ---- a line that may stand there is counted
 module _ (old : Reader) (past : List Line) (said : Line) (leads_to : Step) (feed : Feed) where
   abbrev counted : Reader
@@ -169,67 +155,7 @@ quiet past (line.Moment moment) is = absurd (true≢false (sym is))
 quiet past (line.Query text) is = record { stays = refl; tells = refl; goes_on = refl }
 quiet past line.Skipped is = record { stays = refl; tells = refl; goes_on = refl }
 
-disable-is : (past : List Line) (said : Line) → step.Disabled ≡ step_of every past said → said ≡ line.Disable
-disable-is past (line.Chart def) is = cc
-disable-is past (line.Dimension def) is = cc
-disable-is past (line.Begin chart) is = cc
-disable-is past (line.Set id value anomalous) is = cc
-disable-is past line.End is = cc
-disable-is past line.Flush is = cc
-disable-is past line.Disable is = refl
-disable-is past (line.Moment moment) is = cc
-disable-is past (line.Query text) is = cc
-disable-is past line.Skipped is = cc
-
 module _ (reader : Reader) (past : List Line) (said : Line) (leads_to : Step) (stepped : Stepped reader past said leads_to) (out : List ℕ) where
-  reads-quiet : is_quiet leads_to ≡ true → Reads reader past (placed past said) out out
-  reads-quiet is =
-      let q = quiet past said (sym (ap is_quiet stepped.step_is) ∙ is) in
-      record {
-        said = said;
-        accepted = placed-ok past said stepped.accepted_line;
-        goes_on = q.goes_on;
-        has = record {
-          lines = stepped.lines;
-          skips = stepped.skips;
-          feed = stepped.feed;
-          counts = counts-on reader.feed reader.registry said stepped.counts;
-          definitions = stepped.definitions ∙ sym (ap registry_of q.stays);
-          moment = stepped.moment ∙ sym (ap last q.stays);
-          rows = subst (AreLastOf reader.last_rows) (sym q.stays) stepped.rows;
-          accepted = (stepped.accepted_line, stepped.accepted);
-          limits = stepped.limits;
-        };
-        added = sym (ap (λ more. out ++ more) q.tells ∙ append-nil out);
-      }
-
--- a DISABLE line was read too
-reads-disable : (reader : Reader) (past : List Line) (out : List ℕ) → Stepped reader past line.Disable step.Disabled → StopsFor reader past (placed past line.Disable) stop.Disabled out out
-reads-disable reader past out stepped = (
-  placed-ok past line.Disable stepped.accepted_line,
-  refl,
-  record {
-    lines = stepped.lines;
-    skips = stepped.skips;
-    feed = stepped.feed;
-    counts = stepped.counts;
-    definitions = stepped.definitions;
-    moment = stepped.moment;
-    rows = stepped.rows;
-    accepted = (stepped.accepted_line, stepped.accepted);
-    limits = stepped.limits;
-  },
 )
 
 module _ (reader : Reader) (past : List Line) (said : Line) (out : List ℕ) where
-  pub reads-nothing : Stepped reader past said step.Nothing → Reads reader past (placed past said) out out
-  reads-nothing stepped = reads-quiet reader past said step.Nothing stepped out refl
-
-  pub reads-query : (text : List ℕ) → Stepped reader past said (step.Query text) → Reads reader past (placed past said) out out
-  reads-query text stepped = reads-quiet reader past said (step.Query text) stepped out refl
-
-  pub stops-at_disable : Stepped reader past said step.Disabled → StopsFor reader past (placed past said) stop.Disabled out out
-  stops-at_disable stepped =
-      let is : said ≡ line.Disable = disable-is past said stepped.step_is in
-      subst (λ (other : Line). StopsFor reader past (placed past other) stop.Disabled out out) (sym is)
-      (reads-disable reader past out (subst (λ (other : Line). Stepped reader past other step.Disabled) is stepped))

@@ -1,7 +1,7 @@
 use Rattle.std.proofs.Common.{◌≡◌, ℕ, zero, suc, ◌+◌, ◌*◌, ◌/◌, ◌<◌, ◌≤◌, Bool, true, false, cond, ltb, List, [], ◌∷◌, ◌++◌, length, get_or, take, drop, inl, inr, Option, Some, None, arith, refl, sym, ap, subst, ◌∙◌}
 use Rattle.std.proofs.Math.Nat.{mul-le-mul_right}
 use Rattle.std.proofs.lemmas.Bool.{cases_eq}
-use Rattle.std.proofs.lemmas.List.{take_more, take_all, take-append-drop, append-nil}
+use Rattle.std.proofs.lemmas.List.{take_more, take-append-drop, append-nil}
 use Rattle.std.specs.Bool.{IsTrue}
 use Rattle.fixed_num.specs.declared.units.Record.{Record}
 use Rattle.tier_rollup.specs.Buckets.{Added, record_of}
@@ -71,13 +71,6 @@ prefix_none width floor bucket i points none = go (ltb (bucket * width) floor) n
 
 -- ---- the first bucket with a record, point by point
 
-pub none_yet : (width floor from before : ℕ) (points : List Point) → HaveNoRecord width floor from before (take zero points)
-none_yet width floor from before points = λ bucket low high. go (ltb (bucket * width) floor)
-  where
-    go : (below : Bool) → cond below None (record_of []) ≡ None
-    go true = refl
-    go false = refl
-
 pub none_more : (width floor from before i : ℕ) (points : List Point) (d : Point) → 1 ≤ width → i < length points
     → HaveNoRecord width floor from before (take i points)
     → (from ≤ (get_or points i d).moment / width → (get_or points i d).moment / width < before → record_at width floor ((get_or points i d).moment / width) points ≡ None)
@@ -89,11 +82,6 @@ none_more width floor from before i points d positive inside none here = λ buck
   where
     own : ℕ
     own = (get_or points i d).moment / width
-
-pub none_at_all : (width floor from before i : ℕ) (points : List Point) → length points ≤ i → HaveNoRecord width floor from before (take i points)
-    → HaveNoRecord width floor from before points
-none_at_all width floor from before i points all none = λ bucket low high.
-    ap (record_at width floor bucket) (sym (take_all i points all)) ∙ none bucket low high
 
 -- the points from one on come no earlier than it
 rising_drop : (least i : ℕ) (points : List Point) (d : Point) → are_rising_from least points ≡ true → i < length points

@@ -47,10 +47,6 @@ record_of-append (x ∷ xs) (y ∷ ys) =
 
 -- ---- no sum and no count is too large
 
-within_left : (xs ys : List Added) → AreWithin (xs ++ ys) → AreWithin xs
-within_left [] ys h = tt
-within_left (x ∷ xs) ys h = (h.0, within_left xs ys h.1)
-
 pub room : (xs ys : List Added) → AreWithin (xs ++ ys) → length (xs ++ ys) < 2 ^ 32 → HaveRoom (record_of xs) (record_of ys)
 room [] ys within few = tt
 room (x ∷ xs) [] within few = tt

@@ -47,10 +47,6 @@ may_parts widths after window tier h not =
       | inr both ↦ let parts = and_parts (eqb (after % w) 0) (eqb (window % w) 0) both in (eqb-true (after % w) 0 parts.0, eqb-true (window % w) 0 parts.1)
     ]
 
-pub may_from : (widths : List ℕ) (after window tier : ℕ) → (eqb (after % get_or widths tier 0) 0 && eqb (window % get_or widths tier 0) 0) ≡ true
-    → may_read widths after window tier ≡ true
-may_from widths after window tier h = or_right (eqb tier 0) (eqb (after % get_or widths tier 0) 0 && eqb (window % get_or widths tier 0) 0) h
-
 pub may_not : (widths : List ℕ) (after window tier : ℕ) → 0 < tier → (eqb (after % get_or widths tier 0) 0 && eqb (window % get_or widths tier 0) 0) ≡ false
     → may_read widths after window tier ≡ false
 may_not widths after window tier some h =

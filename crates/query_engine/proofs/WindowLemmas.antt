@@ -37,9 +37,6 @@ one_is from to point = go (point_of point.word)
     go None = none (is_between from to point.moment)
     go (Some v) = by (is_between from to point.moment) (record { moment = point.moment; units = v.units; anomalous = v.anomalous })
 
-pub span_none : (from to : ℕ) (points : List Point) → record_between from to (take zero points) ≡ None
-span_none from to points = refl
-
 -- the record of the points so far and of the next one
 pub span_more : (from to i : ℕ) (points : List Point) (d : Point) (before after : Option Record) → i < length points → are_rising_from 0 points ≡ true → to < from + 2 ^ 32
     → before ≡ record_between from to (take i points)

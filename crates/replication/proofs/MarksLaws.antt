@@ -1,10 +1,10 @@
 -- What one more word marks and takes, and that more words take no less.
-use Rattle.std.proofs.Common.{◌≡◌, ℕ, ◌==◌, ◌+◌, ◌*◌, ◌<◌, ◌≤◌, Bool, true, false, ◌||◌, List, [], ◌∷◌, ◌++◌, length, map, cond, inl, inr, refl, sym, ap, ◌∙◌, arith, Option, Some, slice_get, get_or, set, replicate, length-append}
+use Rattle.std.proofs.Common.{◌≡◌, ℕ, ◌==◌, ◌+◌, ◌*◌, ◌<◌, ◌≤◌, Bool, true, false, ◌||◌, List, [], ◌∷◌, ◌++◌, length, map, cond, inl, inr, refl, sym, ap, ◌∙◌, arith, Option, Some, slice_get, get_or, set, length-append}
 use Rattle.std.specs.List.{list_any, sum_by}
 use Rattle.std.specs.Option.{option_map_or}
 use Rattle.std.proofs.Math.ListN.{length-set}
 use Rattle.std.proofs.lemmas.Bool.{cases_Bool, cases_eq, cond-true, cond-false, or_left, or_right, ne_eqb, eq-eqb}
-use Rattle.std.proofs.lemmas.List.{get_or-replicate, get_or-set_other, get_or-set_same, length-map}
+use Rattle.std.proofs.lemmas.List.{get_or-set_other, get_or-set_same, length-map}
 use Rattle.std.proofs.lemmas.List.Folds.{list_any-append}
 use Rattle.std.proofs.lemmas.List.Sums.{sum_by-cons}
 use Rattle.replication.specs.declared.beats.Beat.{Beat}
@@ -21,9 +21,6 @@ use Rattle.replication.proofs.Places.{or-false, sum_by-select}
 use Rattle.replication.proofs.Sizes.{length-data_bytes}
 
 -- ---- marks
-pub no-marks : (n : ℕ) (marks : List Bool) → marks ≡ replicate n false → length marks ≡ n → AreMarks (λ k. false) n marks
-no-marks n marks is long = record { long = long; each = λ k lt. ap (λ marks. get_or marks k false) is ∙ get_or-replicate n k false false lt }
-
 -- one more mark
 pub mark-more : (test other : ℕ → Bool) (n k : ℕ) (marks : List Bool) → ((j : ℕ) → other j ≡ (test j || (k == j))) → k < n → AreMarks test n marks → AreMarks other n (set marks k true)
 mark-more test other n k marks each lt are = record {

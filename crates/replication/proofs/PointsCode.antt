@@ -1,12 +1,12 @@
 -- Steps of the loops over points.
-use Rattle.std.proofs.Common.{◌≡◌, ℕ, suc, ◌+◌, ◌<◌, ◌≤◌, Bool, false, List, [], ◌∷◌, ◌++◌, length, take, drop, get_or, set, not, inl, inr, refl, sym, ap, ◌∙◌, arith, append_assoc, add-one, drop-cons, length-append, Option, Some, None}
+use Rattle.std.proofs.Common.{◌≡◌, ℕ, suc, ◌+◌, ◌<◌, ◌≤◌, List, [], ◌∷◌, ◌++◌, length, take, drop, get_or, set, not, inl, inr, refl, sym, ap, ◌∙◌, arith, append_assoc, add-one, drop-cons, length-append, Option, Some, None}
 use Rattle.std.specs.declared.cmp.Ordering.{Ordering}
-use Rattle.std.specs.declared.cmp.Ordering.TheVariants.{Less, Equal, Greater}
-use Rattle.std.specs.List.{cons_option, filter_map, find, insert, list_any, position_or_len}
+use Rattle.std.specs.declared.cmp.Ordering.TheVariants.{Less, Equal}
+use Rattle.std.specs.List.{cons_option, filter_map, insert, list_any, position_or_len}
 use Rattle.std.specs.Ordering.{match_ordering}
 use Rattle.std.specs.Option.{option_to_list}
 use Rattle.std.specs.Str.{bytes_eq}
-use Rattle.std.proofs.lemmas.Bool.{cases_Bool, cond-true, cond-false, or_parts}
+use Rattle.std.proofs.lemmas.Bool.{cases_Bool, cond-true, cond-false}
 use Rattle.std.proofs.lemmas.List.{set_split, take_more}
 use Rattle.std.proofs.lemmas.List.Folds.{find_at}
 use Rattle.std.proofs.lemmas.List.Sums.{prefix_len-le-length}
@@ -26,15 +26,6 @@ use Rattle.replication.proofs.PointsLaws.{found}
 put-cons : (point x : NamedPoint) (xs : List NamedPoint) (o : Ordering) → name_cmp point x ≡ o → put point (x ∷ xs) ≡ match_ordering o (point ∷ x ∷ xs) (point ∷ xs) (x ∷ put point xs)
 put-cons point x xs o is = ap (λ o. match_ordering o (point ∷ x ∷ xs) (point ∷ xs) (x ∷ put point xs)) is
 
--- the points before this one are passed
-pub put-past : (point : NamedPoint) (points : List NamedPoint) (i : ℕ) (x : NamedPoint) → i < length points → x ≡ get_or points i x → put point points ≡ take i points ++ put point (drop i points) → name_cmp point x ≡ Greater
-    → put point points ≡ take (i + 1) points ++ put point (drop (i + 1) points)
-put-past point points i x lt at before greater =
-    let rest : drop i points ≡ x ∷ drop (i + 1) points = drop-cons points i x lt ∙ (λ j. sym at j ∷ drop (sym (add-one i) j) points) in
-    let prefix : take (i + 1) points ≡ take i points ++ x ∷ [] = take_more points i x lt ∙ ap (λ x. take i points ++ x ∷ []) (sym at) in
-    before ∙ ap (λ rest. take i points ++ put point rest) rest ∙ ap (λ rest. take i points ++ rest) (put-cons point x (drop (i + 1) points) Greater greater)
-    ∙ sym (ap (λ prefix. prefix ++ put point (drop (i + 1) points)) prefix ∙ append_assoc (take i points) (x ∷ []) (put point (drop (i + 1) points)))
-
 -- it stands before a point that is not
 pub put-new : (point : NamedPoint) (points : List NamedPoint) (i : ℕ) (x : NamedPoint) → i < length points → x ≡ get_or points i x → put point points ≡ take i points ++ put point (drop i points) → name_cmp point x ≡ Less
     → put point points ≡ insert points i point
@@ -49,25 +40,10 @@ put-same point points i x lt at before equal =
     let rest : drop i points ≡ x ∷ drop (suc i) points = drop-cons points i x lt ∙ (λ j. sym at j ∷ drop (suc i) points) in
     before ∙ ap (λ rest. take i points ++ put point rest) rest ∙ ap (λ rest. take i points ++ rest) (put-cons point x (drop (suc i) points) Equal equal) ∙ sym (set_split points i point lt)
 
-drop-all : {X : Type 0} (xs : List X) → drop (length xs) xs ≡ []
-drop-all [] = refl
-drop-all (x ∷ xs) = drop-all xs
-
--- or at the end
-pub put-last : (point : NamedPoint) (points : List NamedPoint) (i : ℕ) → i ≡ length points → put point points ≡ take i points ++ put point (drop i points) → put point points ≡ insert points (length points) point
-put-last point points i end before =
-    before ∙ ap (λ i. take i points ++ put point (drop i points)) end ∙ ap (λ rest. take (length points) points ++ put point rest) (drop-all points)
-    ∙ ap (λ rest. take (length points) points ++ point ∷ rest) (sym (drop-all points))
-
 -- ---- more points
 pub put_all-append : (points ps qs : List NamedPoint) → put_all points (ps ++ qs) ≡ put_all (put_all points ps) qs
 put_all-append points [] qs = refl
 put_all-append points (p ∷ ps) qs = put_all-append (put p points) ps qs
-
-pub put_all-next : (points more : List NamedPoint) (i : ℕ) (x : NamedPoint) → i < length more → x ≡ get_or more i x → put_all points (drop i more) ≡ put_all (put x points) (drop (i + 1) more)
-put_all-next points more i x lt at =
-    let rest : drop i more ≡ x ∷ drop (i + 1) more = drop-cons more i x lt ∙ (λ j. sym at j ∷ drop (sym (add-one i) j) more) in
-    ap (put_all points) rest
 
 pub points_of-next : (points : List NamedPoint) (beats : List NamedBeat) (i : ℕ) (x : NamedBeat) → i < length beats → x ≡ get_or beats i x
     → put_all points (points_of (drop i beats)) ≡ put_all (put_all points x.points) (points_of (drop (i + 1) beats))

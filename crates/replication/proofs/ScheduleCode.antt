@@ -1,5 +1,5 @@
 -- What the calls of a schedule come to.
-use Rattle.std.proofs.Common.{◌≡◌, ℕ, zero, suc, ◌==◌, ◌+◌, ◌-◌, ◌<◌, ◌≤◌, Bool, true, false, ltb, List, [], ◌∷◌, length, take, cond, inl, inr, sym, ap, ◌∙◌, arith, Option, Some, None, slice_get}
+use Rattle.std.proofs.Common.{◌≡◌, ℕ, zero, suc, ◌==◌, ◌+◌, ◌-◌, ◌<◌, ◌≤◌, Bool, true, ltb, List, [], ◌∷◌, length, take, cond, inl, inr, sym, ap, ◌∙◌, arith, Option, Some, None, slice_get}
 use Rattle.std.specs.Option.{option_map_or}
 use Rattle.std.proofs.Math.Seq.{take-nil}
 use Rattle.std.proofs.lemmas.Bool.{cases_lt, cond-true, cond-false, lt-ltb, le-ltb, ne_eqb}
@@ -26,27 +26,12 @@ gap_between-some prev from lt = cond-true (ltb prev from) (record { from = prev;
 with_no-gaps : (w : World) → w ≡ with_gaps w []
 with_no-gaps w = λ i. record w { gaps = sym (append-nil w.gaps) i; last = w.last }
 
-pub no-gap : (w : World) (most prev from : ℕ) → from ≤ prev → w ≡ with_gaps w (take most (gap_between prev from))
-no-gap w most prev from le = with_no-gaps w ∙ ap (with_gaps w) (sym (ap (take most) (gap_between-none prev from le) ∙ take-nil most))
-
-pub no-gap-rest : (most prev from : ℕ) → from ≤ prev → most ≡ most - length (gap_between prev from)
-no-gap-rest most prev from le = omega (arith, ap length (gap_between-none prev from le))
-
 pub none-stored : (w : World) (most prev from : ℕ) → most ≡ 0 → w ≡ with_gaps w (take most (gap_between prev from))
 none-stored w most prev from none = with_no-gaps w ∙ ap (λ most. with_gaps w (take most (gap_between prev from))) (sym none)
-
-pub none-stored-rest : (most prev from : ℕ) → most ≡ 0 → 0 ≡ most - length (gap_between prev from)
-none-stored-rest most prev from none = omega arith
 
 take-one : {X : Type 0} (most : ℕ) (x : X) → 0 < most → take most (x ∷ []) ≡ x ∷ []
 take-one zero x lt = absurd (omega arith)
 take-one (suc most) x lt = ap (λ rest. x ∷ rest) (take-nil most)
-
-pub gap-stored : (most prev from : ℕ) → prev < from → 0 < most → take most (gap_between prev from) ≡ record { from = prev; to = from } ∷ []
-gap-stored most prev from lt some = ap (take most) (gap_between-some prev from lt) ∙ take-one most (record { from = prev; to = from }) some
-
-pub gap-stored-rest : (most prev from : ℕ) → prev < from → most - 1 ≡ most - length (gap_between prev from)
-gap-stored-rest most prev from lt = omega (arith, ap length (gap_between-some prev from lt))
 
 -- ---- verdicts
 -- the parent judges a message as its world does
@@ -54,15 +39,8 @@ pub judged-same : (w : World) (parent : Parent) (sent : Data) (stored : Bool) �
 judged-same w parent sent stored end is = is ∙ (λ i. is_stored (verdict_by (end.child i) (end.last i) sent.child sent.prev))
 
 -- ---- deliveries
-pub delivers-nothing : (w : World) (place : ℕ) (keep : Option ℕ) → slice_get w.messages place ≡ None → w ≡ happens w (Deliver place keep)
-delivers-nothing w place keep none = sym (ap (λ (found : Option Data). option_map_or (delivered w keep) found w) none)
-
 delivers : (w : World) (place : ℕ) (keep : Option ℕ) (sent : Data) → slice_get w.messages place ≡ Some sent → happens w (Deliver place keep) ≡ delivered w keep sent
 delivers w place keep sent found = ap (λ (found : Option Data). option_map_or (delivered w keep) found w) found
-
-pub delivers-other : (w : World) (place : ℕ) (keep : Option ℕ) (sent : Data) → slice_get w.messages place ≡ Some sent → is_stored (verdict_in w sent) ≡ false → w ≡ happens w (Deliver place keep)
-delivers-other w place keep sent found other =
-    sym (delivers w place keep sent found ∙ cond-false (is_stored (verdict_in w sent)) (with_first w (kept_of keep (message_of sent)) (message_of sent)) w other)
 
 pub delivers-own : (w : World) (place : ℕ) (keep : Option ℕ) (sent : Data) → slice_get w.messages place ≡ Some sent → is_stored (verdict_in w sent) ≡ true
     → with_first w (kept_of keep (message_of sent)) (message_of sent) ≡ happens w (Deliver place keep)

@@ -52,23 +52,6 @@ later_bucket width bucket moment positive over =
     let least : bucket + 1 ≤ moment / width = (le-div_iff_mul-le {k = width} {x = bucket + 1} {y = moment} some).1 over in
     omega arith
 
-pub over_later : (width bucket moment : ℕ) → 1 ≤ width → bucket < moment / width → (bucket + 1) * width ≤ moment
-over_later width bucket moment positive lt =
-    let some : zero < width = omega arith in
-    let more : bucket + 1 ≤ moment / width = omega arith in
-    (le-div_iff_mul-le {k = width} {x = bucket + 1} {y = moment} some).0 more
-
-pub same_tests : (width bucket moment : ℕ) → 1 ≤ width → ltb bucket (moment / width) ≡ leb ((bucket + 1) * width) moment
-same_tests width bucket moment positive = by (ltb bucket (moment / width)) refl
-  where
-    by : (b : Bool) → ltb bucket (moment / width) ≡ b → b ≡ leb ((bucket + 1) * width) moment
-    by true e = sym (le-leb ((bucket + 1) * width) moment (over_later width bucket moment positive (ltb-true bucket (moment / width) e)))
-    by false e = by-not (leb ((bucket + 1) * width) moment) refl
-      where
-        by-not : (t : Bool) → leb ((bucket + 1) * width) moment ≡ t → false ≡ t
-        by-not false q = refl
-        by-not true q = sym e ∙ lt-ltb bucket (moment / width) (later_bucket width bucket moment positive (leb-true ((bucket + 1) * width) moment q))
-
 -- ---- the members of a bucket
 
 pub kept : (b : Bool) (point : Added) (rest : List Added) → b ≡ true → cond b (point ∷ rest) rest ≡ point ∷ rest

@@ -23,15 +23,6 @@ pub closed_record : (width moment : ℕ) (current : Option (ℕ × Record)) (poi
     → IfSome (closed_by width moment current) (λ bucket. bucket_record width bucket.0 points ≡ Some bucket.1)
 closed_record width moment current points handed h = handed_record width (is_over width moment current) current points h.open_record
 
-closed_if : (width : ℕ) (b : Bool) (current : Option (ℕ × Record)) (points : List Added) (handed : List ℕ) → HasRolled width current points handed
-    → HasRolled width (if b then None else current) points (numbers (if b then current else None) ++ handed)
-closed_if width true current points handed h = record { rising = h.rising; within = h.within; each_once = h.each_once; open_record = tt }
-closed_if width false current points handed h = h
-
-pub closed_rolled : (width moment : ℕ) (current : Option (ℕ × Record)) (points : List Added) (handed : List ℕ) → HasRolled width current points handed
-    → HasRolled width (kept_by width moment current) points (numbers (closed_by width moment current) ++ handed)
-closed_rolled width moment current points handed h = closed_if width (is_over width moment current) current points handed h
-
 -- ---- a further point
 
 next_if : (width moment : ℕ) (b : Bool) (bucket : ℕ × Record) (points : List Added) (handed : List ℕ) → leb ((bucket.0 + 1) * width) moment ≡ b → IsNext width moment points handed

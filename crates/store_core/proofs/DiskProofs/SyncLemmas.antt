@@ -133,16 +133,6 @@ syncs_opened file old new below only same moments = record {
   own = own_of file old new below only;
 }
 
--- by the clauses of a load of the checkpoint
-pub syncs_loaded : (old new : List Event) → Throughout (EveryDisk (IsDisk old)) old new → ((file : File) → reads_as new file ≡ reads_as old file)
-    → ((other : File) → IsOther other CheckA → IsOther other CheckB → of other new ≡ of other old) → told new ≡ told old → OnlySyncs old new
-syncs_loaded old new moments same others output = record {
-  any_moment = moments;
-  same = same;
-  own = record {
-    others = λ file foreign. others file (is_other file CheckA (λ e. omega (arith, e, foreign))) (is_other file CheckB (λ e. omega (arith, e, foreign)));
-    output = output;
-  };
 }
 
 pub both_synced : {T E : Type 0} (value : T) (fault : E) (old new : List Event) → IsErrOf {T = T} {E = E} (Ok value) fault ⊎ (new ≡ On CheckB Synced ∷ (On CheckA Synced ∷ old))
