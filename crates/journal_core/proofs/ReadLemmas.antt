@@ -134,8 +134,6 @@ reached_more bytes place records body reached begins short =
       fits = short-more records body reached.fits short;
     }
 
-}
-
 pub reached_fails : (bytes : List ℕ) (place end : ℕ) (records : List (List ℕ)) → Reached bytes place records → FailsFrom place bytes end → FailsFrom 16 bytes end
 reached_fails bytes place end records reached from =
     let there : length (opened records) + (end - place) ≡ end - 16 = omega (arith, reached.size, from.after) in
