@@ -4,7 +4,7 @@ ghost use Rattle.host_model.specs.Past.{On, of};
 ghost use Rattle.host_model.specs.Cause.{HasCause};
 ghost use Rattle.host_model.specs.Moments.{Throughout, EveryImage, OnlyOn};
 ghost use Rattle.journal_core.specs.Form.{record_size, FailsAt};
-ghost use Rattle.journal_core.specs.declared.journal.TheConstants.{RECORD_LIMIT};
+ghost use Rattle.journal_core.specs.declared.journal.TheConstants.{EMPTY_SIZE, RECORD_LIMIT};
 
 use crate::fault::JournalFault;
 use crate::reading::{RecordList, read_journal};
@@ -12,6 +12,9 @@ use crate::store::store;
 use host_model::{File, Host};
 use std::alloc::Global;
 use std::marker::Model;
+
+/// How many bytes a journal with no record has: the header and the closed gate.
+pub const EMPTY_SIZE: u64 = 17;
 
 /// The most bytes that a record may have.
 pub const RECORD_LIMIT: usize = 1 << 26;
@@ -29,13 +32,14 @@ pub struct Journal {
 impl Model for Journal {
     ghost use Rattle.std.specs.Prelude.{◌≤◌};
     ghost use Rattle.journal_core.specs.Journal.{JournalState};
+    ghost use Rattle.journal_core.specs.declared.journal.TheConstants.{EMPTY_SIZE};
 
     ghost Value = { JournalState };
 
     ghost view = { λ journal.
         record { file = journal.file; generation = journal.generation; bytes = journal.bytes } };
 
-    ghost invariant = { λ journal. 17 ≤ journal.bytes };
+    ghost invariant = { λ journal. EMPTY_SIZE ≤ journal.bytes };
 }
 
 impl Journal {
@@ -43,12 +47,12 @@ impl Journal {
 
     /// The journal that `prepare` leaves in a file: it has no record.
     pub fn empty(file: File, generation: u64) -> Journal
-        ensures { result ≡ record { file = file; generation = generation; bytes = 17 } }
+        ensures { result ≡ record { file = file; generation = generation; bytes = EMPTY_SIZE } }
     {
         Journal {
             file,
             generation,
-            bytes: 17,
+            bytes: EMPTY_SIZE,
         }
     }
 
