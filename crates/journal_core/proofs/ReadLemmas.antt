@@ -4,7 +4,7 @@ use Rattle.std.specs.List.{AllByRecursion}
 use Rattle.std.proofs.Math.Seq.{take-append-add}
 use Rattle.std.proofs.lemmas.List.{take-append-drop, drop-drop, drop_at, length-drop}
 use Rattle.journal_core.specs.declared.fault.JournalFault.{JournalFault}
-use Rattle.journal_core.specs.declared.fault.JournalFault.TheVariants.{DiskFault, TooLong, NotAJournal, Memory}
+use Rattle.journal_core.specs.declared.fault.JournalFault.TheVariants.{DiskFault, NotAJournal, Memory}
 use Rattle.journal_core.specs.declared.reading.Next.TheVariants.{Record}
 use Rattle.journal_core.specs.Form.{header, length_field, opened, IsShort, StandsFor, GoesOn, FailsAt}
 use Rattle.journal_core.specs.Reading.{Tail, TailGoesOn, TailFails, BeginsWith, BeginsWithRecord, FailsFrom, IfNotAJournal}
@@ -182,6 +182,5 @@ record_cut bytes place size count end is_size inside begins cut =
 
 pub IfNotAJournal-weaker : {P Q : ℕ → Type 0} (fault : JournalFault) → ((place : ℕ) → P place → Q place) → IfNotAJournal fault P → IfNotAJournal fault Q
 IfNotAJournal-weaker DiskFault weaker held = tt
-IfNotAJournal-weaker TooLong weaker held = tt
 IfNotAJournal-weaker (NotAJournal place) weaker held = weaker place held
 IfNotAJournal-weaker Memory weaker held = tt

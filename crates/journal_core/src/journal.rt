@@ -6,7 +6,7 @@ ghost use Rattle.host_model.specs.Moments.{Throughout, EveryImage, OnlyOn};
 ghost use Rattle.journal_core.specs.Form.{record_size, FailsAt};
 ghost use Rattle.journal_core.specs.declared.journal.TheConstants.{EMPTY_SIZE, RECORD_LIMIT};
 
-use crate::fault::JournalFault;
+use crate::fault::{AppendFault, JournalFault};
 use crate::reading::{RecordList, read_journal};
 use crate::store::store;
 use host_model::{File, Host};
@@ -84,7 +84,6 @@ impl Journal {
             → Throughout (EveryImage file (IsImage (of file (H.seen host.old).past)))
             (H.seen host.old).past (H.seen host.new).past }
         ensures only_here { H.honest → OnlyOn file (H.seen host.old).past (H.seen host.new).past }
-        ensures not_too_long { IsErrOf result JournalFault.TooLong → ⊥ }
         ensures cause { HasCause (H.seen host.old).disk_faults (H.seen host.new).disk_faults
             (IsErrOf result JournalFault.DiskFault) }
         ensures output { (H.seen host.new).tell_faults ≡ (H.seen host.old).tell_faults }
@@ -104,7 +103,7 @@ impl Journal {
     /// Adds a record. At `Ok` it is stored and synced, so that it is there after every later crash. After
     /// `DiskFault` each crash leaves the records with the new one or without it, as at every moment of
     /// the call, and the journal must be opened again.
-    pub fn append<H: Host>(&mut self, host: &mut H, body: &[u8]) -> Result<(), JournalFault>
+    pub fn append<H: Host>(&mut self, host: &mut H, body: &[u8]) -> Result<(), AppendFault>
         requires room { self.old.bytes ≤ 2 ^ 60 }
         requires open { H.honest → (records : List (List ℕ))
             × IsOpen (of self.old.file (H.seen host.old).past) self.old records }
@@ -133,20 +132,18 @@ impl Journal {
         ensures journal_stays { OnErr result (self.new ≡ self.old) }
 
         // A record that is too long is refused before the host is asked for anything.
-        ensures too_long { IsErrOf result JournalFault.TooLong ↔ (RECORD_LIMIT < length body.now) }
-        ensures untouched { IsErrOf result JournalFault.TooLong → host.new ≡ host.old }
-        ensures faults { IfErr result
-            (λ fault. (fault ≡ JournalFault.DiskFault) ⊎ (fault ≡ JournalFault.TooLong)) }
+        ensures too_long { IsErrOf result AppendFault.TooLong ↔ (RECORD_LIMIT < length body.now) }
+        ensures untouched { IsErrOf result AppendFault.TooLong → host.new ≡ host.old }
         ensures cause { HasCause (H.seen host.old).disk_faults (H.seen host.new).disk_faults
-            (IsErrOf result JournalFault.DiskFault) }
+            (IsErrOf result AppendFault.DiskFault) }
         ensures output { (H.seen host.new).tell_faults ≡ (H.seen host.old).tell_faults }
         ensures reads { (H.seen host.new).reads ≡ (H.seen host.old).reads }
     {
         if body.len() > RECORD_LIMIT {
-            return Err(JournalFault::TooLong);
+            return Err(AppendFault::TooLong);
         }
         if store(host, self.file, self.bytes - 1, body).is_err() {
-            return Err(JournalFault::DiskFault);
+            return Err(AppendFault::DiskFault);
         }
         self.bytes += 5 + body.len() as u64;
         Ok(())
