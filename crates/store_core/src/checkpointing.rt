@@ -13,7 +13,7 @@ ghost use Rattle.store_core.specs.Store.{is_due, IsReady, IsReplayed, IsStoreOf}
 ghost use Rattle.store_core.specs.Stored.{advanced, is_numbered, Stored as AStored};
 
 use crate::bodies::next_body;
-use crate::fault::{StoreFault, of_files};
+use crate::fault::StoreFault;
 use crate::store::Store;
 use fixed_num::ByteList;
 use host_model::Host;
@@ -121,12 +121,8 @@ impl Store {
         let Ok((body, sealed)) = made else {
             return Err(StoreFault::Memory);
         };
-        match self.files.checkpoint(self.alloc, host, &body, &sealed) {
-            Ok(()) => {
-                self.body = body;
-                Ok(())
-            }
-            Err(fault) => Err(of_files(fault)),
-        }
+        self.files.checkpoint(self.alloc, host, &body, &sealed)?;
+        self.body = body;
+        Ok(())
     }
 }
