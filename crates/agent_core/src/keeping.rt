@@ -1,6 +1,7 @@
 //! What a store keeps of a beat, and how it is added to a history.
 
-ghost use Rattle.std.specs.Prelude.{◌≡◌, ◌↔◌, ◌<◌, ◌≤◌, ◌^◌, [], ◌∷◌, ◌⊎◌, ℕ, List, Some, None, true, false, length, IfOk, IfErr, IfSome, OnOk};
+ghost use Rattle.std.specs.Prelude.{◌≡◌, ◌↔◌, ◌<◌, ◌≤◌, [], ◌∷◌, ◌⊎◌, ℕ, List, Some, None, true, false, length, IfOk, IfErr, IfSome, OnOk};
+ghost use Rattle.health_config.specs.declared.config.TheConstants.{TEXT_LIMIT};
 ghost use Rattle.host_model.specs.Disks.{EveryDisk};
 ghost use Rattle.host_model.specs.Moments.{Throughout};
 ghost use Rattle.history.specs.declared.beat.OpenBeat.{OpenBeat as AnOpenBeat};
@@ -172,7 +173,7 @@ pub(crate) fn unwritten(fault: EntryFault) -> AllocError
 
 /// What a store keeps of a configuration, whose text is no longer than a health text may be.
 fn health_beat(alloc: Global, text: &[u8]) -> Result<Beat, AllocError>
-    requires { length text.now ≤ 2 ^ 20 }
+    requires { length text.now ≤ TEXT_LIMIT }
     ensures kept { IfOk result (λ kept. kept ≡ record {
       moment = None;
       points = [];
@@ -206,7 +207,7 @@ pub(crate) fn add_health<H: Host>(
     requires replayed { IsReplayed store.old }
     requires going { store.old.fault ≡ None }
     requires accepted { health_refusal text.now ≡ None }
-    requires short { length text.now ≤ 2 ^ 20 }
+    requires short { length text.now ≤ TEXT_LIMIT }
     ensures any_moment { H.honest → (set : ASettings) (h : List HistoryBeat)
         → HoldsHistory (H.seen host.old).past store.old set h → IsLeftBy set h left.now
         → Throughout (EveryDisk (λ disk. StandsForHistory set h disk

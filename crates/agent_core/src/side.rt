@@ -8,6 +8,7 @@ ghost use Rattle.tier_settings.specs.declared.settings.Settings.{Settings as ASe
 ghost use Rattle.alarm_core.specs.Course.{held};
 ghost use Rattle.alarm_core.specs.Kept.{kept, of_kept};
 ghost use Rattle.alarm_core.specs.UpTo.{IsUpTo};
+ghost use Rattle.alarm_events.specs.declared.log.TheConstants.{SHOWN};
 ghost use Rattle.beat_entries.specs.Next.{goes_on, with_numbered};
 ghost use Rattle.store_core.specs.declared.beats.beat.Beat.{Beat as StoreBeat};
 ghost use Rattle.side_codec.specs.Sides.{read_side, HasSpelling};
@@ -272,7 +273,7 @@ fn defined(
 
 /// The alarms that were kept so, or the database is damaged.
 fn alarms_of(alloc: Global, kept: &KeptAlarms, registry: &Registry) -> Result<Alarms, AgentFault>
-    requires { length kept.now.events ≤ 1000 }
+    requires { length kept.now.events ≤ SHOWN }
     ensures held { IfOk result (λ alarms. of_kept registry.now kept.now ≡ Some (held alarms)) }
     ensures up_to { IfOk result (λ alarms. IsUpTo alarms registry.now) }
     ensures broken { IfErr result
