@@ -2,9 +2,11 @@
 use Rattle.std.proofs.Common.{◌≡◌, ◌⊎◌, inl, inr, ℕ, zero, suc, ◌≤◌, true, List, Option, Some, None, Result, Ok, Err, IfErr, IsErrOf, refl, sym, ap, ◌∙◌, subst, arith}
 use Rattle.std.specs.Option.{is_some}
 use Rattle.std.proofs.lemmas.Option.{none-some}
+use Rattle.alarm_core.specs.declared.fault.AlarmFault.{AlarmFault}
+use Rattle.alarm_core.specs.declared.fault.AlarmFault.TheVariants as alarms
 use Rattle.beat_entries.specs.declared.refusal.EntryRefusal.{EntryRefusal}
 use Rattle.beat_entries.specs.declared.refusal.EntryRefusal.TheVariants as refusal
-use Rattle.host_model.specs.Cause.{HasCause}
+use Rattle.host_model.specs.Cause.{HasCause, Rose}
 use Rattle.host_model.specs.declared.file.File.{File}
 use Rattle.store_core.specs.Damaged.{IsDamagedIn}
 use Rattle.store_core.specs.Stands.{is_made}
@@ -15,7 +17,7 @@ use Rattle.store_core.specs.Faults.{IsOpenFault, IsReplayFault, ReopensWith}
 use Rattle.store_core.proofs.StandLemmas.{is-made, never-damaged}
 use Rattle.agent_core.specs.declared.fault.AgentFault.{AgentFault}
 use Rattle.agent_core.specs.declared.fault.AgentFault.TheVariants.{Refused, Health, DiskFault, NotADatabase, Damaged, Reopen, Exists, Memory}
-use Rattle.agent_core.specs.Faults.{fault_of, unread, IsOpening, IsUnopened, IsUnreplayed}
+use Rattle.agent_core.specs.Faults.{fault_of, of_alarms, unread, IsOpening, IsUnopened, IsUnreplayed}
 use Rattle.agent_core.specs.Notes.{IsDamaged}
 
 -- ---- what a fault of a store is for an agent
@@ -104,6 +106,13 @@ unread-next refusal.Memory is = cc
 pub unread-either : (told : EntryRefusal) → (unread told ≡ Memory) ⊎ (unread told ≡ Damaged 5)
 unread-either refusal.NotNext = inr refl
 unread-either refusal.Memory = inl refl
+
+-- ---- what was not read, and what was not told
+
+-- where no disk is asked, memory ran out
+pub alarms-short : (fault : AlarmFault) → (fault ≡ alarms.Disk) ⊎ (fault ≡ alarms.Memory) → (fault ≡ alarms.Disk → Rose 0 0) → of_alarms fault ≡ Memory
+alarms-short fault (inl disk) rose = elim (rose disk) [ inl below ↦ absurd (omega (arith, below)) | inr most ↦ absurd (omega (arith, most)) ]
+alarms-short fault (inr memory) rose = ap of_alarms memory
 
 -- ---- the parts
 

@@ -1,7 +1,11 @@
 -- What a fault of an agent leaves it as.
 use Rattle.std.specs.Prelude.{◌≡◌, ◌⊎◌, ◌≤◌, Option, Some, None, Result, Ok, Err}
+use Rattle.alarm_core.specs.declared.fault.AlarmFault.{AlarmFault}
+use Rattle.alarm_core.specs.declared.fault.AlarmFault.TheVariants as alarms
 use Rattle.beat_entries.specs.declared.refusal.EntryRefusal.{EntryRefusal}
 use Rattle.beat_entries.specs.declared.refusal.EntryRefusal.TheVariants as refusal
+use Rattle.entry_codec.specs.declared.fault.EntryFault.{EntryFault}
+use Rattle.entry_codec.specs.declared.fault.EntryFault.TheVariants as entry
 use Rattle.health_config.specs.declared.fault.ConfigFault.{ConfigFault}
 use Rattle.history.specs.declared.fault.BlockFault.{BlockFault}
 use Rattle.history.specs.declared.fault.BlockFault.TheVariants as block
@@ -26,6 +30,22 @@ fault_of store.Memory = Memory
 abbrev pub unread : EntryRefusal → AgentFault
 unread refusal.NotNext = Damaged 5
 unread refusal.Memory = Memory
+
+-- what it is for an agent that bytes are no entry, or that an entry was not written
+abbrev pub of_entry : EntryFault → AgentFault
+of_entry entry.Short = Damaged 5
+of_entry entry.Range = Damaged 5
+of_entry entry.NotText = Damaged 5
+of_entry entry.UnknownKind = Damaged 5
+of_entry entry.NotCanonical = Damaged 5
+of_entry entry.Memory = Memory
+
+-- what a fault of alarms is for an agent
+abbrev pub of_alarms : AlarmFault → AgentFault
+of_alarms alarms.Disk = DiskFault
+of_alarms alarms.BadBytes = Damaged 5
+of_alarms alarms.TooLong = Memory
+of_alarms alarms.Memory = Memory
 
 -- the cause that a fault leaves
 abbrev pub cause_of : AgentFault → Option Why

@@ -1,8 +1,10 @@
 ghost use Rattle.std.specs.Prelude.{◌≡◌};
-ghost use Rattle.agent_core.specs.Faults.{fault_of, unread};
+ghost use Rattle.agent_core.specs.Faults.{fault_of, of_alarms, of_entry, unread};
 ghost use Rattle.agent_core.specs.declared.fault.AgentFault.TheVariants.{Memory};
 
+use alarm_core::AlarmFault;
 use beat_entries::EntryRefusal;
+use entry_codec::EntryFault;
 use health_config::ConfigFault;
 use history::BlockFault;
 use std::alloc::{AllocError, AllocFailed};
@@ -83,6 +85,36 @@ impl From<EntryRefusal> for AgentFault {
         match refusal {
             EntryRefusal::NotNext => AgentFault::Damaged(5),
             EntryRefusal::Memory => AgentFault::Memory,
+        }
+    }
+}
+
+/// What is stored and is no entry is damaged.
+impl From<EntryFault> for AgentFault {
+    ghost from_gives = { λ fault given. given ≡ of_entry fault };
+
+    fn from(fault: EntryFault) -> AgentFault {
+        match fault {
+            EntryFault::Short
+            | EntryFault::Range
+            | EntryFault::NotText
+            | EntryFault::UnknownKind
+            | EntryFault::NotCanonical => AgentFault::Damaged(5),
+            EntryFault::Memory => AgentFault::Memory,
+        }
+    }
+}
+
+/// What is stored and is no alarms is damaged. Alarms that are too long for bytes are as those for which there is no
+/// memory: no side has them.
+impl From<AlarmFault> for AgentFault {
+    ghost from_gives = { λ fault given. given ≡ of_alarms fault };
+
+    fn from(fault: AlarmFault) -> AgentFault {
+        match fault {
+            AlarmFault::Disk => AgentFault::DiskFault,
+            AlarmFault::BadBytes => AgentFault::Damaged(5),
+            AlarmFault::TooLong | AlarmFault::Memory => AgentFault::Memory,
         }
     }
 }

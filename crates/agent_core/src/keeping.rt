@@ -36,7 +36,7 @@ use crate::points::stored_points;
 use crate::side::write_left;
 use beat_points::LastRows;
 use chart_registry::Registry;
-use entry_codec::{Entry, EntryFault, write_collected, write_entry};
+use entry_codec::{Entry, write_collected, write_entry};
 use history::{NumberedBeat, OpenBeat};
 use host_model::Host;
 use std::alloc::{AllocError, Global};
@@ -157,22 +157,8 @@ pub(crate) fn commit<H: Host>(
     }
 }
 
-/// Why an entry that has a spelling was not written: memory ran out.
-pub(crate) fn unwritten(fault: EntryFault) -> AllocError
-    requires { fault ≡ EntryFault.Memory }
-{
-    match fault {
-        EntryFault::Memory => AllocError,
-        EntryFault::Short
-        | EntryFault::Range
-        | EntryFault::NotText
-        | EntryFault::UnknownKind
-        | EntryFault::NotCanonical => unreachable!(),
-    }
-}
-
 /// What a store keeps of a configuration, whose text is no longer than a health text may be.
-fn health_beat(alloc: Global, text: &[u8]) -> Result<Beat, AllocError>
+fn health_beat(alloc: Global, text: &[u8]) -> Result<Beat, AgentFault>
     requires { length text.now ≤ TEXT_LIMIT }
     ensures kept { IfOk result (λ kept. kept ≡ record {
       moment = None;
@@ -182,16 +168,15 @@ fn health_beat(alloc: Global, text: &[u8]) -> Result<Beat, AllocError>
     ensures spelt { OnOk result (HasSpelling (entry.Health text.now)) }
     ensures form { IfOk result InForm }
     ensures size { IfOk result FitsARecord }
+    ensures memory { IfErr result (λ fault. fault ≡ AgentFault.Memory) }
 {
     let entry = Entry::Health(ByteList::from_slice(alloc, text)?);
-    match write_entry(alloc, &entry) {
-        Ok(note) => Ok(Beat {
-            moment: None,
-            points: BeatPointList::new(alloc),
-            note,
-        }),
-        Err(fault) => Err(unwritten(fault)),
-    }
+    let note = write_entry(alloc, &entry)?;
+    Ok(Beat {
+        moment: None,
+        points: BeatPointList::new(alloc),
+        note,
+    })
 }
 
 /// Adds a configuration, whose text nothing refuses, to a store that is still of use. At every moment a crash
