@@ -9,6 +9,10 @@ use Rattle.entry_codec.specs.declared.fault.EntryFault.TheVariants as entry
 use Rattle.health_config.specs.declared.fault.ConfigFault.{ConfigFault}
 use Rattle.history.specs.declared.fault.BlockFault.{BlockFault}
 use Rattle.history.specs.declared.fault.BlockFault.TheVariants as block
+use Rattle.query_engine.specs.declared.fault.PointFault.{PointFault}
+use Rattle.query_engine.specs.declared.fault.PointFault.TheVariants as points
+use Rattle.side_codec.specs.declared.fault.SideFault.{SideFault}
+use Rattle.side_codec.specs.declared.fault.SideFault.TheVariants as side
 use Rattle.store_core.specs.declared.fault.StoreFault.{StoreFault}
 use Rattle.store_core.specs.declared.fault.StoreFault.TheVariants as store
 use Rattle.store_core.specs.declared.fault.Why.{Why}
@@ -46,6 +50,16 @@ of_alarms alarms.Disk = DiskFault
 of_alarms alarms.BadBytes = Damaged 5
 of_alarms alarms.TooLong = Memory
 of_alarms alarms.Memory = Memory
+
+-- what it is for an agent that points were not given
+abbrev pub of_points : PointFault → AgentFault
+of_points points.Disk = DiskFault
+of_points points.Memory = Memory
+
+-- what it is for an agent that bytes gave no side
+abbrev pub of_side : SideFault → AgentFault
+of_side side.BadBytes = Damaged 5
+of_side side.Memory = Memory
 
 -- the cause that a fault leaves
 abbrev pub cause_of : AgentFault → Option Why

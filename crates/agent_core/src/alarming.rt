@@ -136,10 +136,7 @@ fn configure(
     ensures up_to { OnOk result (IsUpTo alarms.new registry.now) }
     ensures memory { IfErr result (λ fault. fault ≡ AgentFault.Memory) }
 {
-    match alarms.configure(config, registry, moment) {
-        Ok(events) => Ok(events),
-        Err(_) => Err(AgentFault::Memory),
-    }
+    Ok(alarms.configure(config, registry, moment)?)
 }
 
 /// Has the alarms follow a beat that is stored, which all else has taken, and gives the events that it tells. After

@@ -39,7 +39,7 @@ use chart_registry::Registry;
 use entry_codec::{Entry, write_collected, write_entry};
 use history::{NumberedBeat, OpenBeat};
 use host_model::Host;
-use std::alloc::{AllocError, Global};
+use std::alloc::Global;
 use store_core::{Beat, BeatPoint, BeatPointList, ByteList, Store};
 
 /// What a store keeps of a numbered beat, whose definitions the registry has.
@@ -48,7 +48,7 @@ fn stored_beat(
     registry: &Registry,
     last_rows: &LastRows,
     numbered: &NumberedBeat,
-) -> Result<Beat, AllocError>
+) -> Result<Beat, AgentFault>
     requires there { IsThere registry.now numbered.now }
     requires canonical { is_collected_canonical numbered.now ≡ true }
     requires limits { IsWithinLimits numbered.now }
@@ -67,10 +67,9 @@ fn stored_beat(
     ensures named { IfOk result (λ kept. names_series registry.now kept.points ≡ true) }
     ensures form { IfOk result InForm }
     ensures size { IfOk result FitsARecord }
+    ensures memory { IfErr result (λ fault. fault ≡ AgentFault.Memory) }
 {
-    let Ok(words) = last_rows.points(alloc, registry, numbered) else {
-        return Err(AllocError);
-    };
+    let words = last_rows.points(alloc, registry, numbered)?;
     let points = stored_points(alloc, registry, words.as_slice())?;
     let note = write_collected(alloc, numbered)?;
     Ok(Beat {
@@ -114,10 +113,8 @@ pub(crate) fn make_room<H: Host>(
         return Ok(());
     }
     let side = write_left(alloc, left, store.floor(0))?;
-    match store.checkpoint(host, side) {
-        Ok(()) => Ok(()),
-        Err(fault) => Err(AgentFault::from(fault)),
-    }
+    store.checkpoint(host, side)?;
+    Ok(())
 }
 
 /// Adds a beat to a store that is still of use, where no checkpoint is due.
@@ -151,10 +148,8 @@ pub(crate) fn commit<H: Host>(
     ensures last { OnOk result
         (store.new.tiers.last ≡ last_after store.old.tiers.last kept.now.moment) }
 {
-    match store.commit(host, kept) {
-        Ok(()) => Ok(()),
-        Err(fault) => Err(AgentFault::from(fault)),
-    }
+    store.commit(host, kept)?;
+    Ok(())
 }
 
 /// What a store keeps of a configuration, whose text is no longer than a health text may be.
@@ -226,10 +221,8 @@ pub(crate) fn take_rows(
     ensures taken { OnOk result (HasTakenRows registry.now last_rows.old last_rows.new beat.now) }
     ensures memory { IfErr result (λ fault. fault ≡ AgentFault.Memory) }
 {
-    match last_rows.apply(registry, beat) {
-        Ok(()) => Ok(()),
-        Err(_) => Err(AgentFault::Memory),
-    }
+    last_rows.apply(registry, beat)?;
+    Ok(())
 }
 
 /// Takes a numbered beat and its points as what was last seen. `before` is the last moment before it.

@@ -23,7 +23,7 @@ ghost use Rattle.agent_core.specs.Sides.{all_charts, all_dimensions, dimension_a
 use crate::fault::AgentFault;
 use crate::gaps::Gaps;
 use crate::left::{Left, Role};
-use alarm_core::{AlarmFault, Alarms, Latest, SeriesPointList, SeriesValueList};
+use alarm_core::{Alarms, Latest, SeriesPointList, SeriesValueList};
 use alarm_events::KeptAlarms;
 use algorithms::Last;
 use beat_entries::{EntryRefusal, define};
@@ -32,9 +32,7 @@ use chart_registry::Registry;
 use fixed_num::{ByteList, ListOf};
 use history::{ChartList, DimensionList, NumberedBeat, NumberedChart, NumberedDimension, RowList};
 use query_engine::Point;
-use side_codec::{
-    LastPoint, LastPointList, Side, SideFault, SideRole, is_short, read_side, write_side,
-};
+use side_codec::{LastPoint, LastPointList, Side, SideRole, is_short, read_side, write_side};
 use std::alloc::{AllocError, Global};
 use storage_number::is_word;
 
@@ -127,20 +125,11 @@ fn stored_points(alloc: Global, points: &[Option<Point>]) -> Result<LastPointLis
     Ok(stored)
 }
 
-/// What is kept of the alarms.
-fn keep_alarms(alarms: &Alarms) -> Result<KeptAlarms, AllocError>
-    ensures { IfOk result (λ kept_alarms. kept_alarms ≡ kept (held alarms.now)) }
-{
-    match alarms.keep() {
-        Ok(kept) => Ok(kept),
-        Err(_) => Err(AllocError),
-    }
-}
-
 /// The side of what beats left, where this is the floor of tier 0.
 #[tactic(auto, unfolding(crate::specs::Sides::side_by))]
-fn side_of(alloc: Global, left: &Left, floor: u32) -> Result<Side, AllocError>
-    ensures { IfOk result (λ side. side ≡ side_by floor left.now) }
+fn side_of(alloc: Global, left: &Left, floor: u32) -> Result<Side, AgentFault>
+    ensures side { IfOk result (λ side. side ≡ side_by floor left.now) }
+    ensures memory { IfErr result (λ fault. fault ≡ AgentFault.Memory) }
 {
     let registry = &left.registry;
     let charts = registry.charts() as usize;
@@ -153,7 +142,7 @@ fn side_of(alloc: Global, left: &Left, floor: u32) -> Result<Side, AllocError>
         chart_moments: filled(alloc, left.latest.charts.as_slice(), charts, 0)?,
         last_rows: filled(alloc, left.last_rows.as_slice(), series, None)?,
         last_points: stored_points(alloc, points.as_slice())?,
-        alarms: keep_alarms(&left.alarms)?,
+        alarms: left.alarms.keep()?,
         gaps: left.gaps.above(alloc, floor)?,
     })
 }
@@ -169,15 +158,11 @@ pub(crate) fn write_left(alloc: Global, left: &Left, floor: u32) -> Result<ByteL
         → length bytes ≤ side_limit (length (gaps_above floor left.now.gaps))) }
     ensures memory { IfErr result (λ fault. fault ≡ AgentFault.Memory) }
 {
-    let Ok(side) = side_of(alloc, left, floor) else {
-        return Err(AgentFault::Memory);
-    };
+    let side = side_of(alloc, left, floor)?;
     if !is_short(&side) {
         return Err(AgentFault::Memory);
     }
-    let Ok(bytes) = write_side(alloc, &side) else {
-        return Err(AgentFault::Memory);
-    };
+    let bytes = write_side(alloc, &side)?;
     if bytes.len() > MOST_BYTES {
         return Err(AgentFault::Memory);
     }
@@ -281,11 +266,7 @@ fn alarms_of(alloc: Global, kept: &KeptAlarms, registry: &Registry) -> Result<Al
     ensures faults { IfErr result
         (λ fault. (fault ≡ AgentFault.Memory) ⊎ (fault ≡ AgentFault.Damaged 5)) }
 {
-    match Alarms::from_kept(alloc, kept, registry) {
-        Ok(alarms) => Ok(alarms),
-        Err(AlarmFault::BadBytes) => Err(AgentFault::Damaged(5)),
-        Err(_) => Err(AgentFault::Memory),
-    }
+    Ok(Alarms::from_kept(alloc, kept, registry)?)
 }
 
 /// What was last seen, from a side.
@@ -355,11 +336,7 @@ fn side_in(alloc: Global, bytes: &[u8]) -> Result<Side, AgentFault>
     ensures faults { IfErr result
         (λ fault. (fault ≡ AgentFault.Memory) ⊎ (fault ≡ AgentFault.Damaged 5)) }
 {
-    match read_side(alloc, bytes) {
-        Ok(side) => Ok(side),
-        Err(SideFault::BadBytes) => Err(AgentFault::Damaged(5)),
-        Err(SideFault::Memory) => Err(AgentFault::Memory),
-    }
+    Ok(read_side(alloc, bytes)?)
 }
 
 /// What beats left, from the side of it, or the database is damaged.
