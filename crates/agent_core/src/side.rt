@@ -1,6 +1,6 @@
 //! The side of a checkpoint: what beats left, as bytes and back.
 
-ghost use Rattle.std.specs.Prelude.{◌≡◌, ◌⊎◌, ◌<◌, ◌≤◌, ◌^◌, List, [], None, Some, true, false, length, map, slice_get, IfErr, IfOk, IfSome, OnOk};
+ghost use Rattle.std.specs.Prelude.{◌≡◌, ◌⊎◌, ◌<◌, ◌≤◌, ◌^◌, List, None, Some, true, false, length, map, slice_get, IfErr, IfOk, IfSome, OnOk};
 ghost use Rattle.std.specs.Option.{option_map};
 ghost use Rattle.history.specs.History.{Beat as HistoryBeat};
 ghost use Rattle.history.specs.Registry.{empty};
@@ -19,6 +19,7 @@ ghost use Rattle.agent_core.specs.Kept.{AreBeatsOf};
 ghost use Rattle.agent_core.specs.Left.{IsFit, IsLeftBy};
 ghost use Rattle.agent_core.specs.Notes.{is_good, noted_in, noted_in_side, role_in};
 ghost use Rattle.agent_core.specs.Sides.{all_charts, all_dimensions, dimension_at, filled, point_back, raw_of, side_by, side_role, stored_point, IsReadFrom, IsSideOf};
+ghost use Rattle.agent_core.specs.Storing.{defining};
 
 use crate::fault::AgentFault;
 use crate::gaps::Gaps;
@@ -26,7 +27,7 @@ use crate::left::{Left, Role};
 use alarm_core::{Alarms, Latest, SeriesPointList, SeriesValueList};
 use alarm_events::KeptAlarms;
 use algorithms::Last;
-use beat_entries::{EntryRefusal, define};
+use beat_entries::define;
 use beat_points::LastRows;
 use chart_registry::Registry;
 use fixed_num::{ByteList, ListOf};
@@ -233,12 +234,12 @@ fn defined(
     charts: ChartList,
     dimensions: DimensionList,
 ) -> Result<Registry, AgentFault>
-    ensures defined { IfOk result (λ registry. registry ≡ with_numbered empty
-        (record { moment = 0; charts = charts; dimensions = dimensions; rows = [] })) }
-    ensures next { OnOk result (goes_on empty
-        (record { moment = 0; charts = charts; dimensions = dimensions; rows = [] }) ≡ true) }
-    ensures broken { IfErr result (λ fault. fault ≡ AgentFault.Damaged 5 → goes_on empty
-        (record { moment = 0; charts = charts; dimensions = dimensions; rows = [] }) ≡ false) }
+    ensures defined { IfOk result
+        (λ registry. registry ≡ with_numbered empty (defining charts dimensions)) }
+    ensures next { OnOk result (goes_on empty (defining charts dimensions) ≡ true) }
+    ensures broken { IfErr result
+        (λ fault. fault ≡ AgentFault.Damaged 5
+        → goes_on empty (defining charts dimensions) ≡ false) }
     ensures faults { IfErr result
         (λ fault. (fault ≡ AgentFault.Memory) ⊎ (fault ≡ AgentFault.Damaged 5)) }
 {
@@ -249,11 +250,8 @@ fn defined(
         dimensions,
         rows: RowList::new(alloc),
     };
-    match define(&mut registry, &beat) {
-        Ok(()) => Ok(registry),
-        Err(EntryRefusal::NotNext) => Err(AgentFault::Damaged(5)),
-        Err(EntryRefusal::Memory) => Err(AgentFault::Memory),
-    }
+    define(&mut registry, &beat)?;
+    Ok(registry)
 }
 
 /// The alarms that were kept so, or the database is damaged.
