@@ -63,10 +63,7 @@ pub(crate) fn open_store<H: Host>(alloc: Global, host: &mut H) -> Result<Store, 
     ensures only_here { H.honest → OnlyOwn (H.seen host.old).past (H.seen host.new).past }
     ensures tells { (H.seen host.new).tell_faults ≡ (H.seen host.old).tell_faults }
 {
-    match Store::open(alloc, host) {
-        Ok(store) => Ok(store),
-        Err(fault) => Err(AgentFault::from(fault)),
-    }
+    Ok(Store::open(alloc, host)?)
 }
 
 /// Gives the next beat that a store has to replay.
@@ -90,10 +87,7 @@ fn next_beat<H: Host>(store: &mut Store, _host: &mut H) -> Result<Option<Beat>, 
     ensures faults { IfErr result
         (λ fault. (fault ≡ AgentFault.Memory) ⊎ (fault ≡ AgentFault.Damaged 4)) }
 {
-    match store.replay() {
-        Ok(next) => Ok(next),
-        Err(fault) => Err(AgentFault::from(fault)),
-    }
+    Ok(store.replay()?)
 }
 
 /// Replays the next beat, and whether there was one.
