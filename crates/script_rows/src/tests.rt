@@ -1,21 +1,37 @@
 //! The script, and the sweeps of its commands, each with how many crashes it has at the least: one for each of its calls
-//! that is refused, and one where none is.
+//! that is refused, and one where none is. A command that makes some hundreds of calls has two tests with each of what a
+//! crash may keep: of its first calls, and of the rest.
 
 use crate::files::host_before;
 use crate::places::Place;
+use crate::seals::third_beat;
 use crate::sessions::{child, parent};
-use crate::sweeps::sweep;
+use crate::sweeps::{Part, WHOLE, sweep};
 use host_model::Keep;
 use std::alloc::Global;
 use std::test::Fail;
 
-/// Whether at least so many crashes of a command are tried with this kept, and all are sound.
-fn is_sound(alloc: Global, place: &Place, keep: Keep, crashes: u64) -> Result<(), Fail> {
-    let seen = sweep(alloc, place, keep)?;
+/// How many calls the first of two tests of a command refuses. The second refuses at least as many.
+const FIRST: u64 = 250;
+
+/// Whether at least so many crashes of this part of a command are tried with this kept, and all are sound.
+fn is_sound_part(
+    alloc: Global,
+    place: &Place,
+    keep: Keep,
+    part: Part,
+    crashes: u64,
+) -> Result<(), Fail> {
+    let seen = sweep(alloc, place, keep, part)?;
     if seen.0 >= crashes && seen.1.is_none() {
         return Ok(());
     }
     Err(Fail::new(format!(in alloc; "{keep:?}: {seen:?}")?))
+}
+
+/// The same of all calls of the command.
+fn is_sound(alloc: Global, place: &Place, keep: Keep, crashes: u64) -> Result<(), Fail> {
+    is_sound_part(alloc, place, keep, WHOLE, crashes)
 }
 
 /// The same of a command of the script, behind which a beat is stored at this moment.
@@ -28,6 +44,18 @@ fn is_sound_with(
 ) -> Result<(), Fail> {
     let place = Place::of(alloc, number, moment)?;
     is_sound(alloc, &place, keep, crashes)
+}
+
+/// The same of its first calls alone.
+fn is_sound_first(alloc: Global, number: usize, moment: u32, keep: Keep) -> Result<(), Fail> {
+    let place = Place::of(alloc, number, moment)?;
+    is_sound_part(alloc, &place, keep, (0, FIRST), FIRST)
+}
+
+/// The same of the rest.
+fn is_sound_last(alloc: Global, number: usize, moment: u32, keep: Keep) -> Result<(), Fail> {
+    let place = Place::of(alloc, number, moment)?;
+    is_sound_part(alloc, &place, keep, (FIRST, u64::MAX), FIRST)
 }
 
 /// The same with each of what a crash may keep.
@@ -73,6 +101,21 @@ fn its_parent_keeps_none(rt: HostRuntime) -> Result<(), Fail> {
 #[test]
 fn its_parent_fills(rt: HostRuntime) -> Result<(), Fail> {
     is_sound(rt.alloc(), &parent(rt.alloc())?, Keep::Fill(255), 45)
+}
+
+#[test]
+fn a_beat_that_seals_keeps_all(rt: HostRuntime) -> Result<(), Fail> {
+    is_sound(rt.alloc(), &third_beat(rt.alloc())?, Keep::All, 400)
+}
+
+#[test]
+fn a_beat_that_seals_keeps_none(rt: HostRuntime) -> Result<(), Fail> {
+    is_sound(rt.alloc(), &third_beat(rt.alloc())?, Keep::None, 400)
+}
+
+#[test]
+fn a_beat_that_seals_fills(rt: HostRuntime) -> Result<(), Fail> {
+    is_sound(rt.alloc(), &third_beat(rt.alloc())?, Keep::Fill(255), 400)
 }
 
 #[test]
@@ -191,18 +234,33 @@ fn command_34_fills(rt: HostRuntime) -> Result<(), Fail> {
 }
 
 #[test]
-fn command_37_keeps_all(rt: HostRuntime) -> Result<(), Fail> {
-    is_sound_with(rt.alloc(), 37, 3619, Keep::All, 100)
+fn command_37_keeps_all_first(rt: HostRuntime) -> Result<(), Fail> {
+    is_sound_first(rt.alloc(), 37, 3619, Keep::All)
 }
 
 #[test]
-fn command_37_keeps_none(rt: HostRuntime) -> Result<(), Fail> {
-    is_sound_with(rt.alloc(), 37, 3619, Keep::None, 100)
+fn command_37_keeps_all_last(rt: HostRuntime) -> Result<(), Fail> {
+    is_sound_last(rt.alloc(), 37, 3619, Keep::All)
 }
 
 #[test]
-fn command_37_fills(rt: HostRuntime) -> Result<(), Fail> {
-    is_sound_with(rt.alloc(), 37, 3619, Keep::Fill(255), 100)
+fn command_37_keeps_none_first(rt: HostRuntime) -> Result<(), Fail> {
+    is_sound_first(rt.alloc(), 37, 3619, Keep::None)
+}
+
+#[test]
+fn command_37_keeps_none_last(rt: HostRuntime) -> Result<(), Fail> {
+    is_sound_last(rt.alloc(), 37, 3619, Keep::None)
+}
+
+#[test]
+fn command_37_fills_first(rt: HostRuntime) -> Result<(), Fail> {
+    is_sound_first(rt.alloc(), 37, 3619, Keep::Fill(255))
+}
+
+#[test]
+fn command_37_fills_last(rt: HostRuntime) -> Result<(), Fail> {
+    is_sound_last(rt.alloc(), 37, 3619, Keep::Fill(255))
 }
 
 #[test]
@@ -281,18 +339,33 @@ fn command_44_fills(rt: HostRuntime) -> Result<(), Fail> {
 }
 
 #[test]
-fn command_46_keeps_all(rt: HostRuntime) -> Result<(), Fail> {
-    is_sound_with(rt.alloc(), 46, 3855, Keep::All, 100)
+fn command_46_keeps_all_first(rt: HostRuntime) -> Result<(), Fail> {
+    is_sound_first(rt.alloc(), 46, 3855, Keep::All)
 }
 
 #[test]
-fn command_46_keeps_none(rt: HostRuntime) -> Result<(), Fail> {
-    is_sound_with(rt.alloc(), 46, 3855, Keep::None, 100)
+fn command_46_keeps_all_last(rt: HostRuntime) -> Result<(), Fail> {
+    is_sound_last(rt.alloc(), 46, 3855, Keep::All)
 }
 
 #[test]
-fn command_46_fills(rt: HostRuntime) -> Result<(), Fail> {
-    is_sound_with(rt.alloc(), 46, 3855, Keep::Fill(255), 100)
+fn command_46_keeps_none_first(rt: HostRuntime) -> Result<(), Fail> {
+    is_sound_first(rt.alloc(), 46, 3855, Keep::None)
+}
+
+#[test]
+fn command_46_keeps_none_last(rt: HostRuntime) -> Result<(), Fail> {
+    is_sound_last(rt.alloc(), 46, 3855, Keep::None)
+}
+
+#[test]
+fn command_46_fills_first(rt: HostRuntime) -> Result<(), Fail> {
+    is_sound_first(rt.alloc(), 46, 3855, Keep::Fill(255))
+}
+
+#[test]
+fn command_46_fills_last(rt: HostRuntime) -> Result<(), Fail> {
+    is_sound_last(rt.alloc(), 46, 3855, Keep::Fill(255))
 }
 
 #[test]
@@ -311,16 +384,31 @@ fn command_49_fills(rt: HostRuntime) -> Result<(), Fail> {
 }
 
 #[test]
-fn command_52_keeps_all(rt: HostRuntime) -> Result<(), Fail> {
-    is_sound_with(rt.alloc(), 52, 7275, Keep::All, 100)
+fn command_52_keeps_all_first(rt: HostRuntime) -> Result<(), Fail> {
+    is_sound_first(rt.alloc(), 52, 7275, Keep::All)
 }
 
 #[test]
-fn command_52_keeps_none(rt: HostRuntime) -> Result<(), Fail> {
-    is_sound_with(rt.alloc(), 52, 7275, Keep::None, 100)
+fn command_52_keeps_all_last(rt: HostRuntime) -> Result<(), Fail> {
+    is_sound_last(rt.alloc(), 52, 7275, Keep::All)
 }
 
 #[test]
-fn command_52_fills(rt: HostRuntime) -> Result<(), Fail> {
-    is_sound_with(rt.alloc(), 52, 7275, Keep::Fill(255), 100)
+fn command_52_keeps_none_first(rt: HostRuntime) -> Result<(), Fail> {
+    is_sound_first(rt.alloc(), 52, 7275, Keep::None)
+}
+
+#[test]
+fn command_52_keeps_none_last(rt: HostRuntime) -> Result<(), Fail> {
+    is_sound_last(rt.alloc(), 52, 7275, Keep::None)
+}
+
+#[test]
+fn command_52_fills_first(rt: HostRuntime) -> Result<(), Fail> {
+    is_sound_first(rt.alloc(), 52, 7275, Keep::Fill(255))
+}
+
+#[test]
+fn command_52_fills_last(rt: HostRuntime) -> Result<(), Fail> {
+    is_sound_last(rt.alloc(), 52, 7275, Keep::Fill(255))
 }
