@@ -1,6 +1,6 @@
 //! The script, and the sweeps of its commands, each with how many crashes it has at the least: one for each of its calls
-//! that is refused, and one where none is. A command that makes some hundreds of calls has two tests with each of what a
-//! crash may keep: of its first calls, and of the rest.
+//! that is refused, and one where none is. A command that makes more than a thousand calls has three tests with each of
+//! what a crash may keep, of a part of its calls each.
 
 use crate::files::host_before;
 use crate::places::Place;
@@ -11,8 +11,14 @@ use host_model::Keep;
 use std::alloc::Global;
 use std::test::Fail;
 
-/// How many calls the first of two tests of a command refuses. The second refuses at least as many.
-const FIRST: u64 = 250;
+/// The first calls of a command that makes more than a thousand.
+const FIRST: Part = (0, 650);
+
+/// Those behind the first.
+const SECOND: Part = (650, 1050);
+
+/// All the rest.
+const LAST: Part = (1050, u64::MAX);
 
 /// Whether at least so many crashes of this part of a command are tried with this kept, and all are sound.
 fn is_sound_part(
@@ -46,16 +52,17 @@ fn is_sound_with(
     is_sound(alloc, &place, keep, crashes)
 }
 
-/// The same of its first calls alone.
-fn is_sound_first(alloc: Global, number: usize, moment: u32, keep: Keep) -> Result<(), Fail> {
+/// The same of this part of its calls.
+fn is_sound_in(
+    alloc: Global,
+    number: usize,
+    moment: u32,
+    keep: Keep,
+    part: Part,
+    crashes: u64,
+) -> Result<(), Fail> {
     let place = Place::of(alloc, number, moment)?;
-    is_sound_part(alloc, &place, keep, (0, FIRST), FIRST)
-}
-
-/// The same of the rest.
-fn is_sound_last(alloc: Global, number: usize, moment: u32, keep: Keep) -> Result<(), Fail> {
-    let place = Place::of(alloc, number, moment)?;
-    is_sound_part(alloc, &place, keep, (FIRST, u64::MAX), FIRST)
+    is_sound_part(alloc, &place, keep, part, crashes)
 }
 
 /// The same with each of what a crash may keep.
@@ -105,17 +112,17 @@ fn its_parent_fills(rt: HostRuntime) -> Result<(), Fail> {
 
 #[test]
 fn a_beat_that_seals_keeps_all(rt: HostRuntime) -> Result<(), Fail> {
-    is_sound(rt.alloc(), &third_beat(rt.alloc())?, Keep::All, 400)
+    is_sound(rt.alloc(), &third_beat(rt.alloc())?, Keep::All, 502)
 }
 
 #[test]
 fn a_beat_that_seals_keeps_none(rt: HostRuntime) -> Result<(), Fail> {
-    is_sound(rt.alloc(), &third_beat(rt.alloc())?, Keep::None, 400)
+    is_sound(rt.alloc(), &third_beat(rt.alloc())?, Keep::None, 502)
 }
 
 #[test]
 fn a_beat_that_seals_fills(rt: HostRuntime) -> Result<(), Fail> {
-    is_sound(rt.alloc(), &third_beat(rt.alloc())?, Keep::Fill(255), 400)
+    is_sound(rt.alloc(), &third_beat(rt.alloc())?, Keep::Fill(255), 502)
 }
 
 #[test]
@@ -234,33 +241,18 @@ fn command_34_fills(rt: HostRuntime) -> Result<(), Fail> {
 }
 
 #[test]
-fn command_37_keeps_all_first(rt: HostRuntime) -> Result<(), Fail> {
-    is_sound_first(rt.alloc(), 37, 3619, Keep::All)
+fn command_37_keeps_all(rt: HostRuntime) -> Result<(), Fail> {
+    is_sound_with(rt.alloc(), 37, 3619, Keep::All, 525)
 }
 
 #[test]
-fn command_37_keeps_all_last(rt: HostRuntime) -> Result<(), Fail> {
-    is_sound_last(rt.alloc(), 37, 3619, Keep::All)
+fn command_37_keeps_none(rt: HostRuntime) -> Result<(), Fail> {
+    is_sound_with(rt.alloc(), 37, 3619, Keep::None, 525)
 }
 
 #[test]
-fn command_37_keeps_none_first(rt: HostRuntime) -> Result<(), Fail> {
-    is_sound_first(rt.alloc(), 37, 3619, Keep::None)
-}
-
-#[test]
-fn command_37_keeps_none_last(rt: HostRuntime) -> Result<(), Fail> {
-    is_sound_last(rt.alloc(), 37, 3619, Keep::None)
-}
-
-#[test]
-fn command_37_fills_first(rt: HostRuntime) -> Result<(), Fail> {
-    is_sound_first(rt.alloc(), 37, 3619, Keep::Fill(255))
-}
-
-#[test]
-fn command_37_fills_last(rt: HostRuntime) -> Result<(), Fail> {
-    is_sound_last(rt.alloc(), 37, 3619, Keep::Fill(255))
+fn command_37_fills(rt: HostRuntime) -> Result<(), Fail> {
+    is_sound_with(rt.alloc(), 37, 3619, Keep::Fill(255), 525)
 }
 
 #[test]
@@ -340,32 +332,47 @@ fn command_44_fills(rt: HostRuntime) -> Result<(), Fail> {
 
 #[test]
 fn command_46_keeps_all_first(rt: HostRuntime) -> Result<(), Fail> {
-    is_sound_first(rt.alloc(), 46, 3855, Keep::All)
+    is_sound_in(rt.alloc(), 46, 3855, Keep::All, FIRST, 650)
+}
+
+#[test]
+fn command_46_keeps_all_second(rt: HostRuntime) -> Result<(), Fail> {
+    is_sound_in(rt.alloc(), 46, 3855, Keep::All, SECOND, 400)
 }
 
 #[test]
 fn command_46_keeps_all_last(rt: HostRuntime) -> Result<(), Fail> {
-    is_sound_last(rt.alloc(), 46, 3855, Keep::All)
+    is_sound_in(rt.alloc(), 46, 3855, Keep::All, LAST, 314)
 }
 
 #[test]
 fn command_46_keeps_none_first(rt: HostRuntime) -> Result<(), Fail> {
-    is_sound_first(rt.alloc(), 46, 3855, Keep::None)
+    is_sound_in(rt.alloc(), 46, 3855, Keep::None, FIRST, 650)
+}
+
+#[test]
+fn command_46_keeps_none_second(rt: HostRuntime) -> Result<(), Fail> {
+    is_sound_in(rt.alloc(), 46, 3855, Keep::None, SECOND, 400)
 }
 
 #[test]
 fn command_46_keeps_none_last(rt: HostRuntime) -> Result<(), Fail> {
-    is_sound_last(rt.alloc(), 46, 3855, Keep::None)
+    is_sound_in(rt.alloc(), 46, 3855, Keep::None, LAST, 314)
 }
 
 #[test]
 fn command_46_fills_first(rt: HostRuntime) -> Result<(), Fail> {
-    is_sound_first(rt.alloc(), 46, 3855, Keep::Fill(255))
+    is_sound_in(rt.alloc(), 46, 3855, Keep::Fill(255), FIRST, 650)
+}
+
+#[test]
+fn command_46_fills_second(rt: HostRuntime) -> Result<(), Fail> {
+    is_sound_in(rt.alloc(), 46, 3855, Keep::Fill(255), SECOND, 400)
 }
 
 #[test]
 fn command_46_fills_last(rt: HostRuntime) -> Result<(), Fail> {
-    is_sound_last(rt.alloc(), 46, 3855, Keep::Fill(255))
+    is_sound_in(rt.alloc(), 46, 3855, Keep::Fill(255), LAST, 314)
 }
 
 #[test]
@@ -385,30 +392,45 @@ fn command_49_fills(rt: HostRuntime) -> Result<(), Fail> {
 
 #[test]
 fn command_52_keeps_all_first(rt: HostRuntime) -> Result<(), Fail> {
-    is_sound_first(rt.alloc(), 52, 7275, Keep::All)
+    is_sound_in(rt.alloc(), 52, 7275, Keep::All, FIRST, 650)
+}
+
+#[test]
+fn command_52_keeps_all_second(rt: HostRuntime) -> Result<(), Fail> {
+    is_sound_in(rt.alloc(), 52, 7275, Keep::All, SECOND, 400)
 }
 
 #[test]
 fn command_52_keeps_all_last(rt: HostRuntime) -> Result<(), Fail> {
-    is_sound_last(rt.alloc(), 52, 7275, Keep::All)
+    is_sound_in(rt.alloc(), 52, 7275, Keep::All, LAST, 314)
 }
 
 #[test]
 fn command_52_keeps_none_first(rt: HostRuntime) -> Result<(), Fail> {
-    is_sound_first(rt.alloc(), 52, 7275, Keep::None)
+    is_sound_in(rt.alloc(), 52, 7275, Keep::None, FIRST, 650)
+}
+
+#[test]
+fn command_52_keeps_none_second(rt: HostRuntime) -> Result<(), Fail> {
+    is_sound_in(rt.alloc(), 52, 7275, Keep::None, SECOND, 400)
 }
 
 #[test]
 fn command_52_keeps_none_last(rt: HostRuntime) -> Result<(), Fail> {
-    is_sound_last(rt.alloc(), 52, 7275, Keep::None)
+    is_sound_in(rt.alloc(), 52, 7275, Keep::None, LAST, 314)
 }
 
 #[test]
 fn command_52_fills_first(rt: HostRuntime) -> Result<(), Fail> {
-    is_sound_first(rt.alloc(), 52, 7275, Keep::Fill(255))
+    is_sound_in(rt.alloc(), 52, 7275, Keep::Fill(255), FIRST, 650)
+}
+
+#[test]
+fn command_52_fills_second(rt: HostRuntime) -> Result<(), Fail> {
+    is_sound_in(rt.alloc(), 52, 7275, Keep::Fill(255), SECOND, 400)
 }
 
 #[test]
 fn command_52_fills_last(rt: HostRuntime) -> Result<(), Fail> {
-    is_sound_last(rt.alloc(), 52, 7275, Keep::Fill(255))
+    is_sound_in(rt.alloc(), 52, 7275, Keep::Fill(255), LAST, 314)
 }
