@@ -1,5 +1,5 @@
 //! The script, and the sweeps of its commands, each with how many crashes it has at the least: one for each of its calls
-//! that is refused, and one where none is. A command that makes more than a thousand calls has three tests with each of
+//! that is refused, and one where none is. A command that makes more than a thousand calls has five tests with each of
 //! what a crash may keep, of a part of its calls each.
 
 use crate::files::host_before;
@@ -12,13 +12,17 @@ use std::alloc::Global;
 use std::test::Fail;
 
 /// The first calls of a command that makes more than a thousand.
-const FIRST: Part = (0, 650);
+const FIRST: Part = (0, 400);
 
-/// Those behind the first.
-const SECOND: Part = (650, 1050);
+/// Those behind the first, and so on.
+const SECOND: Part = (400, 700);
+
+const THIRD: Part = (700, 950);
+
+const FOURTH: Part = (950, 1170);
 
 /// All the rest.
-const LAST: Part = (1050, u64::MAX);
+const LAST: Part = (1170, u64::MAX);
 
 /// Whether at least so many crashes of this part of a command are tried with this kept, and all are sound.
 fn is_sound_part(
@@ -332,47 +336,77 @@ fn command_44_fills(rt: HostRuntime) -> Result<(), Fail> {
 
 #[test]
 fn command_46_keeps_all_first(rt: HostRuntime) -> Result<(), Fail> {
-    is_sound_in(rt.alloc(), 46, 3855, Keep::All, FIRST, 650)
+    is_sound_in(rt.alloc(), 46, 3855, Keep::All, FIRST, 400)
 }
 
 #[test]
 fn command_46_keeps_all_second(rt: HostRuntime) -> Result<(), Fail> {
-    is_sound_in(rt.alloc(), 46, 3855, Keep::All, SECOND, 400)
+    is_sound_in(rt.alloc(), 46, 3855, Keep::All, SECOND, 300)
+}
+
+#[test]
+fn command_46_keeps_all_third(rt: HostRuntime) -> Result<(), Fail> {
+    is_sound_in(rt.alloc(), 46, 3855, Keep::All, THIRD, 250)
+}
+
+#[test]
+fn command_46_keeps_all_fourth(rt: HostRuntime) -> Result<(), Fail> {
+    is_sound_in(rt.alloc(), 46, 3855, Keep::All, FOURTH, 220)
 }
 
 #[test]
 fn command_46_keeps_all_last(rt: HostRuntime) -> Result<(), Fail> {
-    is_sound_in(rt.alloc(), 46, 3855, Keep::All, LAST, 314)
+    is_sound_in(rt.alloc(), 46, 3855, Keep::All, LAST, 194)
 }
 
 #[test]
 fn command_46_keeps_none_first(rt: HostRuntime) -> Result<(), Fail> {
-    is_sound_in(rt.alloc(), 46, 3855, Keep::None, FIRST, 650)
+    is_sound_in(rt.alloc(), 46, 3855, Keep::None, FIRST, 400)
 }
 
 #[test]
 fn command_46_keeps_none_second(rt: HostRuntime) -> Result<(), Fail> {
-    is_sound_in(rt.alloc(), 46, 3855, Keep::None, SECOND, 400)
+    is_sound_in(rt.alloc(), 46, 3855, Keep::None, SECOND, 300)
+}
+
+#[test]
+fn command_46_keeps_none_third(rt: HostRuntime) -> Result<(), Fail> {
+    is_sound_in(rt.alloc(), 46, 3855, Keep::None, THIRD, 250)
+}
+
+#[test]
+fn command_46_keeps_none_fourth(rt: HostRuntime) -> Result<(), Fail> {
+    is_sound_in(rt.alloc(), 46, 3855, Keep::None, FOURTH, 220)
 }
 
 #[test]
 fn command_46_keeps_none_last(rt: HostRuntime) -> Result<(), Fail> {
-    is_sound_in(rt.alloc(), 46, 3855, Keep::None, LAST, 314)
+    is_sound_in(rt.alloc(), 46, 3855, Keep::None, LAST, 194)
 }
 
 #[test]
 fn command_46_fills_first(rt: HostRuntime) -> Result<(), Fail> {
-    is_sound_in(rt.alloc(), 46, 3855, Keep::Fill(255), FIRST, 650)
+    is_sound_in(rt.alloc(), 46, 3855, Keep::Fill(255), FIRST, 400)
 }
 
 #[test]
 fn command_46_fills_second(rt: HostRuntime) -> Result<(), Fail> {
-    is_sound_in(rt.alloc(), 46, 3855, Keep::Fill(255), SECOND, 400)
+    is_sound_in(rt.alloc(), 46, 3855, Keep::Fill(255), SECOND, 300)
+}
+
+#[test]
+fn command_46_fills_third(rt: HostRuntime) -> Result<(), Fail> {
+    is_sound_in(rt.alloc(), 46, 3855, Keep::Fill(255), THIRD, 250)
+}
+
+#[test]
+fn command_46_fills_fourth(rt: HostRuntime) -> Result<(), Fail> {
+    is_sound_in(rt.alloc(), 46, 3855, Keep::Fill(255), FOURTH, 220)
 }
 
 #[test]
 fn command_46_fills_last(rt: HostRuntime) -> Result<(), Fail> {
-    is_sound_in(rt.alloc(), 46, 3855, Keep::Fill(255), LAST, 314)
+    is_sound_in(rt.alloc(), 46, 3855, Keep::Fill(255), LAST, 194)
 }
 
 #[test]
@@ -392,45 +426,75 @@ fn command_49_fills(rt: HostRuntime) -> Result<(), Fail> {
 
 #[test]
 fn command_52_keeps_all_first(rt: HostRuntime) -> Result<(), Fail> {
-    is_sound_in(rt.alloc(), 52, 7275, Keep::All, FIRST, 650)
+    is_sound_in(rt.alloc(), 52, 7275, Keep::All, FIRST, 400)
 }
 
 #[test]
 fn command_52_keeps_all_second(rt: HostRuntime) -> Result<(), Fail> {
-    is_sound_in(rt.alloc(), 52, 7275, Keep::All, SECOND, 400)
+    is_sound_in(rt.alloc(), 52, 7275, Keep::All, SECOND, 300)
+}
+
+#[test]
+fn command_52_keeps_all_third(rt: HostRuntime) -> Result<(), Fail> {
+    is_sound_in(rt.alloc(), 52, 7275, Keep::All, THIRD, 250)
+}
+
+#[test]
+fn command_52_keeps_all_fourth(rt: HostRuntime) -> Result<(), Fail> {
+    is_sound_in(rt.alloc(), 52, 7275, Keep::All, FOURTH, 220)
 }
 
 #[test]
 fn command_52_keeps_all_last(rt: HostRuntime) -> Result<(), Fail> {
-    is_sound_in(rt.alloc(), 52, 7275, Keep::All, LAST, 314)
+    is_sound_in(rt.alloc(), 52, 7275, Keep::All, LAST, 194)
 }
 
 #[test]
 fn command_52_keeps_none_first(rt: HostRuntime) -> Result<(), Fail> {
-    is_sound_in(rt.alloc(), 52, 7275, Keep::None, FIRST, 650)
+    is_sound_in(rt.alloc(), 52, 7275, Keep::None, FIRST, 400)
 }
 
 #[test]
 fn command_52_keeps_none_second(rt: HostRuntime) -> Result<(), Fail> {
-    is_sound_in(rt.alloc(), 52, 7275, Keep::None, SECOND, 400)
+    is_sound_in(rt.alloc(), 52, 7275, Keep::None, SECOND, 300)
+}
+
+#[test]
+fn command_52_keeps_none_third(rt: HostRuntime) -> Result<(), Fail> {
+    is_sound_in(rt.alloc(), 52, 7275, Keep::None, THIRD, 250)
+}
+
+#[test]
+fn command_52_keeps_none_fourth(rt: HostRuntime) -> Result<(), Fail> {
+    is_sound_in(rt.alloc(), 52, 7275, Keep::None, FOURTH, 220)
 }
 
 #[test]
 fn command_52_keeps_none_last(rt: HostRuntime) -> Result<(), Fail> {
-    is_sound_in(rt.alloc(), 52, 7275, Keep::None, LAST, 314)
+    is_sound_in(rt.alloc(), 52, 7275, Keep::None, LAST, 194)
 }
 
 #[test]
 fn command_52_fills_first(rt: HostRuntime) -> Result<(), Fail> {
-    is_sound_in(rt.alloc(), 52, 7275, Keep::Fill(255), FIRST, 650)
+    is_sound_in(rt.alloc(), 52, 7275, Keep::Fill(255), FIRST, 400)
 }
 
 #[test]
 fn command_52_fills_second(rt: HostRuntime) -> Result<(), Fail> {
-    is_sound_in(rt.alloc(), 52, 7275, Keep::Fill(255), SECOND, 400)
+    is_sound_in(rt.alloc(), 52, 7275, Keep::Fill(255), SECOND, 300)
+}
+
+#[test]
+fn command_52_fills_third(rt: HostRuntime) -> Result<(), Fail> {
+    is_sound_in(rt.alloc(), 52, 7275, Keep::Fill(255), THIRD, 250)
+}
+
+#[test]
+fn command_52_fills_fourth(rt: HostRuntime) -> Result<(), Fail> {
+    is_sound_in(rt.alloc(), 52, 7275, Keep::Fill(255), FOURTH, 220)
 }
 
 #[test]
 fn command_52_fills_last(rt: HostRuntime) -> Result<(), Fail> {
-    is_sound_in(rt.alloc(), 52, 7275, Keep::Fill(255), LAST, 314)
+    is_sound_in(rt.alloc(), 52, 7275, Keep::Fill(255), LAST, 194)
 }
