@@ -3,6 +3,7 @@ pub mod Beginning
 pub mod Contents
 pub mod Damaged
 pub mod Files
+pub mod Formed
 pub mod Holds
 pub mod Kept
 pub mod Next

@@ -26,6 +26,7 @@ mod first;
 mod kept_items;
 mod kept_segments;
 mod kept_tiers;
+mod left;
 mod next;
 mod next_extents;
 mod next_points;
@@ -35,6 +36,7 @@ mod sound;
 mod tiers;
 
 pub use first::first_body;
+pub use left::left_tiers;
 pub use next::next_body;
 pub use next_extents::sealed_after;
 pub use tiers::{body_determines_its_tiers, tiers_of};

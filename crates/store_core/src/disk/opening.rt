@@ -46,13 +46,13 @@ pub struct Opened {
 
 /// A checkpoint that was loaded.
 #[derive(Drop)]
-struct Checkpoint {
-    number: u64,
-    body: Body,
+pub(crate) struct Checkpoint {
+    pub(crate) number: u64,
+    pub(crate) body: Body,
 }
 
 /// Loads the checkpoint that counts.
-fn load_checkpoint<H: Host>(alloc: Global, host: &mut H) -> Result<Checkpoint, FilesFault>
+pub(crate) fn load_checkpoint<H: Host>(alloc: Global, host: &mut H) -> Result<Checkpoint, FilesFault>
     ensures loaded { IfOk result (λ found. H.honest
         → HasCheckpoint found.number found.body (reads_as (H.seen host.old).past)) }
     ensures spelt { IfOk result (λ found. HasSpelling found.body) }
@@ -101,7 +101,7 @@ fn settle<H: Host>(host: &mut H, file: File) -> Result<(), FilesFault>
 }
 
 /// Makes the files of the tiers hold what they read as.
-fn settle_tiers<H: Host>(host: &mut H) -> Result<(), FilesFault>
+pub(crate) fn settle_tiers<H: Host>(host: &mut H) -> Result<(), FilesFault>
     ensures synced { OnOk result (H.honest → IsSynced (of File.Tier0 (H.seen host.new).past)
         × IsSynced (of File.Tier1 (H.seen host.new).past)
         × IsSynced (of File.Tier2 (H.seen host.new).past)) }
@@ -121,13 +121,13 @@ fn settle_tiers<H: Host>(host: &mut H) -> Result<(), FilesFault>
 
 /// The journal of a generation, and its records.
 #[derive(Drop)]
-struct OpenJournal {
-    journal: Journal,
-    records: RecordList,
+pub(crate) struct OpenJournal {
+    pub(crate) journal: Journal,
+    pub(crate) records: RecordList,
 }
 
 /// Opens the journal of a checkpoint.
-fn open_journal<H: Host>(
+pub(crate) fn open_journal<H: Host>(
     alloc: Global,
     host: &mut H,
     number: u64,
