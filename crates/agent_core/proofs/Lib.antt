@@ -37,7 +37,6 @@ pub mod OpeningLemmas
 pub mod Outcomes
 pub mod PlaceLemmas
 pub mod PointLemmas
-pub mod ReadyLemmas
 pub mod ReplayLemmas
 pub mod ReplyLemmas
 pub mod RunLemmas
