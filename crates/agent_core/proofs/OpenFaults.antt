@@ -12,7 +12,7 @@ use Rattle.store_core.specs.declared.fault.StoreFault.{StoreFault}
 use Rattle.store_core.specs.declared.fault.StoreFault.TheVariants as store
 use Rattle.store_core.specs.declared.fault.Why.{Why}
 use Rattle.store_core.specs.Faults.{IsOpenFault, IsReplayFault, ReopensWith}
-use Rattle.store_core.proofs.DamageLemmas.{form-whole}
+use Rattle.store_core.proofs.DamageLemmas.{form-undamaged}
 use Rattle.store_core.proofs.StandLemmas.{is-made}
 use Rattle.agent_core.specs.declared.fault.AgentFault.{AgentFault}
 use Rattle.agent_core.specs.declared.fault.AgentFault.TheVariants.{Refused, Health, DiskFault, NotADatabase, Damaged, Reopen, Exists, Memory}
@@ -134,7 +134,7 @@ damaged-made (suc (suc (suc (suc zero)))) disk damaged = is-made disk ∙ ap is_
 damaged-made (suc (suc (suc (suc (suc part))))) disk damaged = absurd damaged
 
 pub damaged-is : (part : ℕ) (disk : File → List ℕ) → IsDamagedIn part disk → IsDamaged disk
-damaged-is part disk damaged = record { made = damaged-made part disk damaged; no_form = λ body beats form. form-whole part body beats disk form damaged }
+damaged-is part disk damaged = record { made = damaged-made part disk damaged; no_form = λ body beats form. form-undamaged body beats disk form part damaged }
 
 pub same-fault : {T : Type 0} (a b : AgentFault) (result : Result T AgentFault) → result ≡ Err a → result ≡ Err b → a ≡ b
 same-fault a b result e f = cc

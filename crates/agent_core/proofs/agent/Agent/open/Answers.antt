@@ -4,7 +4,7 @@ use Rattle.host_model.specs.Disks.{reads_as, EveryDisk}
 use Rattle.host_model.specs.Seen.{Seen}
 use Rattle.tier_settings.specs.declared.settings.Settings.{Settings}
 use Rattle.history.specs.History.{Beat}
-use Rattle.store_core.proofs.StandLemmas.{one-damaged}
+use Rattle.store_core.proofs.DamageLemmas.{one-damaged}
 use Rattle.agent_core.specs.Calls.{Opens}
 use Rattle.agent_core.specs.declared.fault.AgentFault.TheVariants.{Damaged}
 use Rattle.agent_core.specs.Faults.{IsUnopened}
