@@ -397,8 +397,6 @@ module _ (honest : Type 0) (host : Seen) (agent : AgentState) (feed feed' : Feed
       → Throughout (EveryDisk (StandsForOneOf set h reason more)) host.past host.past
   never reason more set h is_of = begins (nothing_done host.past agent set h is_of reason more)
 
-  }
-
   pub line-refused : (fault : BlockFault) → agent.fault ≡ None → AgentIsReady honest host.past agent
       → ((every : ℕ) (past : List Line) → IsFeedOf feed every past → CountsAt line feed agent.registry → refusal agent.registry every past (copies agent.role) agent.last line ≡ Some fault)
       → Lines honest host agent feed line (failed (Refused fault)) host agent feed'

@@ -80,8 +80,8 @@ fn are_sealed<T>(last: u32, segments: &[Segment<T>]) -> bool
     true
 }
 
-/// Whether a tier may keep these items.
-fn are_kept<T: Copy + Drop>(tier: Tier, last: u32, limit: u64, kept: &KeptItems<T>) -> bool
+/// Whether a tier may keep these items: the segments sealed up to the last moment, and each item below a place.
+pub fn are_kept<T: Copy + Drop>(tier: Tier, last: u32, limit: u64, kept: &KeptItems<T>) -> bool
     ensures { result ≡ are_kept tier last limit kept.now }
 {
     kept.sealed.len() <= tier.extents as usize
@@ -105,7 +105,7 @@ fn are_open(records: &[(u32, Record)]) -> bool
 }
 
 /// Whether a tier of records may keep these.
-fn is_record_tier(last: u32, tier: Tier, kept: &KeptRecords) -> bool
+pub fn is_record_tier(last: u32, tier: Tier, kept: &KeptRecords) -> bool
     requires { 1 ≤ tier.width }
     ensures { result ≡ is_record_tier last tier kept.now }
 {

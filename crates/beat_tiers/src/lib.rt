@@ -5,7 +5,8 @@
 //! and answers for points, records, floors and kept beats. Where each beat follows those before it (`Follows`),
 //! each answer is that of its definition over all beats, and no floor falls. `reserve` takes all memory that a beat
 //! needs, so that `take` cannot fail. `Tiers::restore` makes tiers of their parts, or `None` where these have not
-//! the form of tiers.
+//! the form of tiers. `are_kept` and `is_record_tier` say which tier has not, and `Tiers::of_parts` takes parts in
+//! form.
 //!
 //! A beat costs by its points and the records that close at it, and an answer finds its items by halves. Each item
 //! is sorted once, when its segment is sealed.
@@ -32,6 +33,7 @@ mod segments;
 mod sound_law;
 mod tiers;
 
+pub use form::{are_kept, is_record_tier};
 pub use item::{BeatPoint, BeatPointList, Item, Stepped};
 pub use kept::{Kept, KeptBeat, KeptBeatList, KeptPoint, KeptPointList};
 pub use kept_law::kept_beats_reach_the_floor;

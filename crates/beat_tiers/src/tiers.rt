@@ -3,7 +3,7 @@ ghost use Rattle.std.specs.List.{AllByRecursion};
 ghost use Rattle.std.specs.Option.{option_map};
 ghost use Rattle.beat_tiers.specs.Above.{is_above, RiseAbove};
 ghost use Rattle.beat_tiers.specs.Kept.{kept_in};
-ghost use Rattle.beat_tiers.specs.Parts.{are_record_tiers, restored, restored_tiers};
+ghost use Rattle.beat_tiers.specs.Parts.{are_in_form, are_record_tiers, restored, restored_tiers};
 ghost use Rattle.beat_tiers.specs.Room.{records_held, tiers_held, HasRoom, HasRoomAfter, HasRoomFor};
 ghost use Rattle.beat_tiers.specs.Segments.{items_of, with_items};
 ghost use Rattle.beat_tiers.specs.State.{AreClosed, RecordTierState, after_beat, no_beats, no_records, point_items, points_after, points_in, record_in, record_tier_after, tier_floor};
@@ -180,13 +180,31 @@ impl Tiers {
         if !form::are_in_form(first, others, last, &points, records.as_slice()) {
             return Ok(None);
         }
-        Ok(Some(Tiers {
+        Ok(Some(Tiers::of_parts(alloc, first, others, last, points, records)?))
+    }
+
+    /// The tiers of parts that are in their form: `last` and the settings are those of `restore`.
+    pub fn of_parts(
+        alloc: Global,
+        first: Tier,
+        others: &[Tier],
+        last: u32,
+        points: KeptItems<Stepped>,
+        records: KeptRecordsList,
+    ) -> Result<Tiers, AllocError>
+        requires first { IsTier first }
+        requires others { AllByRecursion IsTier others.now }
+        requires form { are_in_form first others.now last points records ≡ true }
+        ensures { IfOk result (λ tiers. restored first others.now last points records
+            ≡ Some (tiers_held tiers)) }
+    {
+        Ok(Tiers {
             alloc,
             last,
             first,
             points: Segments::restore(alloc, points)?,
             records: restored_tiers(alloc, last, others, records)?,
-        }))
+        })
     }
 
     /// Takes the memory for a beat. What is kept is as before, also after an `Err`.

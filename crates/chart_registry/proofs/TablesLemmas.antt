@@ -157,8 +157,6 @@ module _ (defs : List OpenDim) (def : OpenDim) where
     pub dimension-added : FindsDimensions new (defs ++ def ∷ [])
     dimension-added = record { finds = found-added; counts = counts-added }
 
-}
-
 -- ---- tables of places
 abbrev pub entries_of : {S : Type 0} → Option (IndexMap (String Global) ℕ S) → List (String Global × ℕ)
 entries_of found = option_map_or (λ table. table.entries) found []

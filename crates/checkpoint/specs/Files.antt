@@ -4,6 +4,7 @@ use Rattle.std.specs.Option.{option_map}
 use Rattle.host_model.specs.declared.file.File.{File}
 use Rattle.host_model.specs.declared.file.File.TheVariants.{CheckA, CheckB}
 use Rattle.checkpoint.specs.declared.head.Head.{Head}
+use Rattle.checkpoint.specs.declared.head.TheConstants.{HEAD}
 use Rattle.checkpoint.specs.Form.{head_in, body_in}
 
 -- what an open checkpoint file holds
@@ -14,7 +15,7 @@ pub record Slot : Type 0 where
 
 -- what a file with this head holds
 abbrev pub slot_of : List ℕ → Head → Slot
-slot_of bytes head = record { number = head.number; body = body_in head.size (drop 17 bytes) }
+slot_of bytes head = record { number = head.number; body = body_in head.size (drop HEAD bytes) }
 
 -- what a file holds, if it is open: its numbers are odd (1) or even (0)
 abbrev pub slot_in : ℕ → List ℕ → Option Slot

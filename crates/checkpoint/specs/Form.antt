@@ -2,6 +2,7 @@
 use Rattle.std.specs.Prelude.{◌≢◌, ◌⊎◌, ◌==◌, ◌&&◌, ℕ, ◌<◌, ◌%◌, Bool, if◌then◌else◌, nat_le, List, ◌∷◌, ◌++◌, length, take, drop, slice_index, Option, Some, None}
 use Rattle.byteorder.specs.Endian.{little_bytes, little_number}
 use Rattle.checkpoint.specs.declared.head.Head.{Head}
+use Rattle.checkpoint.specs.declared.head.TheConstants.{HEAD}
 
 -- a number in eight bytes, the lowest first
 unfoldable pub field : ℕ → List ℕ
@@ -26,7 +27,7 @@ size_in bytes = little_number 8 (drop 9 bytes)
 -- the file is open: it has a whole head, its gate byte is 1, and its number is odd (1) or even (0), as
 -- the numbers of the file are
 abbrev pub is_open : ℕ → List ℕ → Bool
-is_open odd bytes = nat_le 17 (length bytes) && (slice_index bytes 0 == 1) && (number_in bytes % 2 == odd)
+is_open odd bytes = nat_le HEAD (length bytes) && (slice_index bytes 0 == 1) && (number_in bytes % 2 == odd)
 
 -- what the head of an open file says
 unfoldable pub head_in : ℕ → List ℕ → Option Head
@@ -38,4 +39,4 @@ body_in size rest = if nat_le size (length rest) then Some (take size rest) else
 
 -- the file is not open, whatever its number
 abbrev pub IsShut : List ℕ → Type 0
-IsShut bytes = (length bytes < 17) ⊎ (slice_index bytes 0 ≢ 1)
+IsShut bytes = (length bytes < HEAD) ⊎ (slice_index bytes 0 ≢ 1)

@@ -6,9 +6,9 @@ use byteorder::{ByteOrder, LittleEndian};
 use host_model::File;
 
 /// How many bytes stand before the body: the gate, the number and the length.
-pub(crate) const HEAD: usize = 17;
+pub const HEAD: usize = 17;
 
-/// What the first 17 bytes of an open checkpoint file say.
+/// What the head of an open checkpoint file says.
 #[derive(Clone, Copy, Debug)]
 pub(crate) struct Head {
     pub(crate) number: u64,
@@ -38,7 +38,7 @@ pub(crate) fn head_bytes(number: u64, size: u64) -> [u8; 16]
     bytes
 }
 
-/// What the first 17 bytes of a file say, where it is open. The numbers of the file are odd, or even.
+/// What the head of a file says, where it is open. The numbers of the file are odd, or even.
 pub(crate) fn head_of(seen: &[u8; HEAD], odd: u64) -> Option<Head>
     ensures { result ≡ head_in odd seen.now }
 {

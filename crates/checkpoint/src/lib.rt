@@ -24,5 +24,6 @@ mod rest;
 mod switching;
 
 pub use fault::CheckFault;
+pub use head::HEAD;
 pub use loading::load;
 pub use switching::switch;

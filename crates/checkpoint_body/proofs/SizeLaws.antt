@@ -24,7 +24,7 @@ use Rattle.checkpoint_body.specs.declared.of_tiers.OfTiers.{OfTiers}
 use Rattle.checkpoint_body.specs.declared.page.RecordPage.{RecordPage}
 use Rattle.checkpoint_body.specs.declared.page.SlotPage.{SlotPage}
 use Rattle.checkpoint_body.specs.Body.{body_bytes, extents_of, floors_of, sealed_of, HasSpelling}
-use Rattle.checkpoint_body.specs.Canonical.{are_few, are_in_order, are_open, ends_in_time, is_ascending, is_point_tier, is_record_page, is_record_tier, is_series, is_slot, is_slot_page, point_count, record_count, record_span, slot_span, spaced}
+use Rattle.checkpoint_body.specs.Canonical.{are_few, are_in_order, are_open, ends_in_time, is_ascending, is_point_tier, is_record_page, is_record_tier, is_series, is_slot_page, point_count, record_count, record_span, slot_span, spaced}
 use Rattle.checkpoint_body.specs.Fields.{each_bytes, extent_bytes, open_record_bytes, quota_bytes, record_bytes, record_page_bytes, settings_bytes, slot_page_bytes}
 use Rattle.checkpoint_body.specs.Size.{body_limit, point_tier_limit, record_tier_limit}
 
@@ -132,10 +132,8 @@ slot_page-within : (page : SlotPage) → is_slot_page page ≡ true → length (
 slot_page-within page is =
     let first : Bool = leb (length page.words) 1024 && ltb 0 page.step in
     let second : Bool = spaced 6 page.words in
-    let third : Bool = list_all is_slot page.words in
-    let last = and_parts (first && second && third) (ends_in_time (slot_span page)) is in
-    let next = and_parts (first && second) third last.0 in
-    let prefix = and_parts first second next.0 in
+    let last = and_parts (first && second) (ends_in_time (slot_span page)) is in
+    let prefix = and_parts first second last.0 in
     omega (arith, length-slot_page_bytes page, spaced-slots 6 page.words (omega arith) prefix.1)
 
 record_page-within : (width : ℕ) (page : RecordPage) → is_record_page width page ≡ true → length (record_page_bytes page) ≤ 72 * length page.records

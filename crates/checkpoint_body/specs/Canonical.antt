@@ -1,7 +1,6 @@
 -- What is tested of a body, beside that its numbers fit their fields.
 use Rattle.std.specs.Prelude.{ℕ, zero, suc, ◌+◌, ◌-◌, ◌*◌, ◌%◌, ◌^◌, Bool, true, not, ◌&&◌, ◌||◌, ◌==◌, nat_lt, nat_le, List, [], ◌∷◌, length, map, sum_by, count_by}
 use Rattle.std.specs.List.{list_all}
-use Rattle.storage_number.specs.Word.{is_word}
 use Rattle.tier_settings.specs.declared.limits.TheConstants.{MOST_SERIES}
 use Rattle.tier_settings.specs.declared.tier.Tier.{Tier}
 use Rattle.checkpoint_body.specs.declared.body.Extent.{Extent}
@@ -60,16 +59,12 @@ spaced empty [] = empty == 0
 spaced empty (zero ∷ words) = nat_lt empty 6 && spaced (empty + 1) words
 spaced empty (suc _ ∷ words) = spaced 0 words
 
--- empty, or a storage number
-abbrev pub is_slot : ℕ → Bool
-is_slot word = word == 0 || is_word word
-
 abbrev pub ends_in_time : Span → Bool
 ends_in_time span = nat_lt span.end (2 ^ 32)
 
 abbrev pub is_slot_page : SlotPage → Bool
 is_slot_page page =
-    nat_le (length page.words) MOST_SLOTS && nat_lt 0 page.step && spaced 6 page.words && list_all is_slot page.words && ends_in_time (slot_span page)
+    nat_le (length page.words) MOST_SLOTS && nat_lt 0 page.step && spaced 6 page.words && ends_in_time (slot_span page)
 
 -- 1 to 73 records, of buckets of this width
 abbrev pub is_record_page : ℕ → RecordPage → Bool

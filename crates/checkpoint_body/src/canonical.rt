@@ -5,7 +5,7 @@ ghost use Rattle.checkpoint_body.specs.declared.body.OpenRecord.{OpenRecord as A
 ghost use Rattle.tier_settings.specs.Limits.{HasWidths};
 ghost use Rattle.std.specs.List.{list_all};
 ghost use Rattle.checkpoint_body.specs.Body.{is_canonical};
-ghost use Rattle.checkpoint_body.specs.Canonical.{are_few, are_in_order, are_open, is_ascending, is_before, is_point_tier, is_record_page, is_record_tier, is_series, is_slot, is_slot_page, point_count, record_count, record_span, slot_span, spaced};
+ghost use Rattle.checkpoint_body.specs.Canonical.{are_few, are_in_order, are_open, is_ascending, is_before, is_point_tier, is_record_page, is_record_tier, is_series, is_slot_page, point_count, record_count, record_span, slot_span, spaced};
 
 use crate::body::{Body, Extent, OpenRecord, PointTier, RecordTier};
 use crate::grid::moment_of;
@@ -141,18 +141,6 @@ fn are_spaced(words: &[u32]) -> bool
     empty == 0
 }
 
-fn is_slot(word: u32) -> bool
-    ensures { result ≡ is_slot word }
-{
-    word == 0 || storage_number::is_word(word)
-}
-
-fn are_slots(words: &[u32]) -> bool
-    ensures { result ≡ list_all is_slot words.now }
-{
-    words.iter().all(|word| is_slot(*word))
-}
-
 fn is_slot_page(page: &SlotPage) -> bool
     ensures { result ≡ is_slot_page page.now }
 {
@@ -160,7 +148,6 @@ fn is_slot_page(page: &SlotPage) -> bool
     words.len() <= MOST_SLOTS
         && 0 < page.step
         && are_spaced(words)
-        && are_slots(words)
         && slot_span(page).end <= u128::from(u32::MAX)
 }
 

@@ -17,8 +17,8 @@
 //! with the items that are read, so that a count takes no memory by itself.
 //!
 //! It stands on `field_codec` for the fields and lists, on `tier_settings` for the settings and
-//! their limits, on `fixed_num` for records and lists, and on `storage_number` for which words are
-//! storage numbers. It knows no disk.
+//! their limits, and on `fixed_num` for records and lists. A word of a page may be any number. It
+//! knows no disk.
 #![tactic(auto)]
 
 mod body;

@@ -80,5 +80,3 @@ Settling-more keep old new number file bytes here left before = record {
   output = before.output;
   fresh = ap (λ (host : HostState). record host { past = put_down new.past file bytes }) before.fresh;
 }
-
-}

@@ -4,7 +4,7 @@ use Rattle.std.specs.List.{AllByRecursion}
 use Rattle.std.proofs.Math.Seq.{take-append-add}
 use Rattle.std.proofs.lemmas.List.{take-append-drop, drop-drop, drop_at, length-drop}
 use Rattle.journal_core.specs.declared.fault.JournalFault.{JournalFault}
-use Rattle.journal_core.specs.declared.fault.JournalFault.TheVariants.{DiskFault, TooLong, NotAJournal, Memory}
+use Rattle.journal_core.specs.declared.fault.JournalFault.TheVariants.{DiskFault, NotAJournal, Memory}
 use Rattle.journal_core.specs.declared.reading.Next.TheVariants.{Record}
 use Rattle.journal_core.specs.Form.{header, length_field, opened, IsShort, StandsFor, GoesOn, FailsAt}
 use Rattle.journal_core.specs.Reading.{Tail, TailGoesOn, TailFails, BeginsWith, BeginsWithRecord, FailsFrom, IfNotAJournal}
@@ -134,8 +134,6 @@ reached_more bytes place records body reached begins short =
       fits = short-more records body reached.fits short;
     }
 
-}
-
 pub reached_fails : (bytes : List ℕ) (place end : ℕ) (records : List (List ℕ)) → Reached bytes place records → FailsFrom place bytes end → FailsFrom 16 bytes end
 reached_fails bytes place end records reached from =
     let there : length (opened records) + (end - place) ≡ end - 16 = omega (arith, reached.size, from.after) in
@@ -184,6 +182,5 @@ record_cut bytes place size count end is_size inside begins cut =
 
 pub IfNotAJournal-weaker : {P Q : ℕ → Type 0} (fault : JournalFault) → ((place : ℕ) → P place → Q place) → IfNotAJournal fault P → IfNotAJournal fault Q
 IfNotAJournal-weaker DiskFault weaker held = tt
-IfNotAJournal-weaker TooLong weaker held = tt
 IfNotAJournal-weaker (NotAJournal place) weaker held = weaker place held
 IfNotAJournal-weaker Memory weaker held = tt

@@ -1,6 +1,7 @@
 use Rattle.std.specs.Prelude.{◌≡◌, ℕ, ◌+◌, ◌⊎◌, List, [], ◌∷◌, ◌++◌, length}
 use Rattle.host_model.specs.declared.file.File.{File}
 use Rattle.host_model.specs.Images.{Change, contents, IsSynced}
+use Rattle.journal_core.specs.declared.journal.TheConstants.{EMPTY_SIZE}
 use Rattle.journal_core.specs.Form.{opened, StandsFor}
 
 -- what contracts see of a journal
@@ -13,7 +14,7 @@ pub record JournalState : Type 0 where
 -- after this past the file of the journal is synced and holds these records
 pub record IsOpen (past : List Change) (journal : JournalState) (records : List (List ℕ)) : Type 0 where
   pub stands : StandsFor journal.generation (contents past) records
-  pub size : journal.bytes ≡ 17 + length (opened records)
+  pub size : journal.bytes ≡ EMPTY_SIZE + length (opened records)
   pub synced : IsSynced past
 
 -- the bytes are a journal of the records, with the new one or without it

@@ -1,7 +1,7 @@
 use Rattle.std.specs.Prelude.{◌≡◌, ◌≢◌, ℕ, ◌+◌, ◌-◌, ◌^◌, ◌<◌, ◌≤◌, List, ◌∷◌, ◌++◌, length, take, drop, Option, Some, None}
 use Rattle.std.specs.List.{AllByRecursion}
 use Rattle.journal_core.specs.declared.fault.JournalFault.{JournalFault}
-use Rattle.journal_core.specs.declared.fault.JournalFault.TheVariants.{DiskFault, TooLong, NotAJournal, Memory}
+use Rattle.journal_core.specs.declared.fault.JournalFault.TheVariants.{DiskFault, NotAJournal, Memory}
 use Rattle.journal_core.specs.declared.reading.Next.{Next}
 use Rattle.journal_core.specs.declared.reading.Next.TheVariants.{Closed, Record, Broken}
 use Rattle.journal_core.specs.Form.{length_field, opened, IsShort}
@@ -28,7 +28,6 @@ pub record TailFails (bytes : List ℕ) (place : ℕ) : Type 0 where
 -- the fault, if it is one of the bytes
 abbrev pub IfNotAJournal : JournalFault → (ℕ → Type 0) → Type 0
 IfNotAJournal DiskFault P = Unit {0}
-IfNotAJournal TooLong P = Unit {0}
 IfNotAJournal (NotAJournal place) P = P place
 IfNotAJournal Memory P = Unit {0}
 

@@ -4,14 +4,17 @@ ghost use Rattle.host_model.specs.Past.{On, of};
 ghost use Rattle.host_model.specs.Cause.{HasCause};
 ghost use Rattle.host_model.specs.Moments.{Throughout, EveryImage, OnlyOn};
 ghost use Rattle.journal_core.specs.Form.{record_size, FailsAt};
-ghost use Rattle.journal_core.specs.declared.journal.TheConstants.{RECORD_LIMIT};
+ghost use Rattle.journal_core.specs.declared.journal.TheConstants.{EMPTY_SIZE, RECORD_LIMIT};
 
-use crate::fault::JournalFault;
+use crate::fault::{AppendFault, JournalFault};
 use crate::reading::{RecordList, read_journal};
 use crate::store::store;
 use host_model::{File, Host};
 use std::alloc::Global;
 use std::marker::Model;
+
+/// How many bytes a journal with no record has: the header and the closed gate.
+pub const EMPTY_SIZE: u64 = 17;
 
 /// The most bytes that a record may have.
 pub const RECORD_LIMIT: usize = 1 << 26;
@@ -29,13 +32,14 @@ pub struct Journal {
 impl Model for Journal {
     ghost use Rattle.std.specs.Prelude.{◌≤◌};
     ghost use Rattle.journal_core.specs.Journal.{JournalState};
+    ghost use Rattle.journal_core.specs.declared.journal.TheConstants.{EMPTY_SIZE};
 
     ghost Value = { JournalState };
 
     ghost view = { λ journal.
         record { file = journal.file; generation = journal.generation; bytes = journal.bytes } };
 
-    ghost invariant = { λ journal. 17 ≤ journal.bytes };
+    ghost invariant = { λ journal. EMPTY_SIZE ≤ journal.bytes };
 }
 
 impl Journal {
@@ -43,12 +47,12 @@ impl Journal {
 
     /// The journal that `prepare` leaves in a file: it has no record.
     pub fn empty(file: File, generation: u64) -> Journal
-        ensures { result ≡ record { file = file; generation = generation; bytes = 17 } }
+        ensures { result ≡ record { file = file; generation = generation; bytes = EMPTY_SIZE } }
     {
         Journal {
             file,
             generation,
-            bytes: 17,
+            bytes: EMPTY_SIZE,
         }
     }
 
@@ -80,7 +84,6 @@ impl Journal {
             → Throughout (EveryImage file (IsImage (of file (H.seen host.old).past)))
             (H.seen host.old).past (H.seen host.new).past }
         ensures only_here { H.honest → OnlyOn file (H.seen host.old).past (H.seen host.new).past }
-        ensures not_too_long { IsErrOf result JournalFault.TooLong → ⊥ }
         ensures cause { HasCause (H.seen host.old).disk_faults (H.seen host.new).disk_faults
             (IsErrOf result JournalFault.DiskFault) }
         ensures output { (H.seen host.new).tell_faults ≡ (H.seen host.old).tell_faults }
@@ -100,7 +103,7 @@ impl Journal {
     /// Adds a record. At `Ok` it is stored and synced, so that it is there after every later crash. After
     /// `DiskFault` each crash leaves the records with the new one or without it, as at every moment of
     /// the call, and the journal must be opened again.
-    pub fn append<H: Host>(&mut self, host: &mut H, body: &[u8]) -> Result<(), JournalFault>
+    pub fn append<H: Host>(&mut self, host: &mut H, body: &[u8]) -> Result<(), AppendFault>
         requires room { self.old.bytes ≤ 2 ^ 60 }
         requires open { H.honest → (records : List (List ℕ))
             × IsOpen (of self.old.file (H.seen host.old).past) self.old records }
@@ -129,20 +132,18 @@ impl Journal {
         ensures journal_stays { OnErr result (self.new ≡ self.old) }
 
         // A record that is too long is refused before the host is asked for anything.
-        ensures too_long { IsErrOf result JournalFault.TooLong ↔ (RECORD_LIMIT < length body.now) }
-        ensures untouched { IsErrOf result JournalFault.TooLong → host.new ≡ host.old }
-        ensures faults { IfErr result
-            (λ fault. (fault ≡ JournalFault.DiskFault) ⊎ (fault ≡ JournalFault.TooLong)) }
+        ensures too_long { IsErrOf result AppendFault.TooLong ↔ (RECORD_LIMIT < length body.now) }
+        ensures untouched { IsErrOf result AppendFault.TooLong → host.new ≡ host.old }
         ensures cause { HasCause (H.seen host.old).disk_faults (H.seen host.new).disk_faults
-            (IsErrOf result JournalFault.DiskFault) }
+            (IsErrOf result AppendFault.DiskFault) }
         ensures output { (H.seen host.new).tell_faults ≡ (H.seen host.old).tell_faults }
         ensures reads { (H.seen host.new).reads ≡ (H.seen host.old).reads }
     {
         if body.len() > RECORD_LIMIT {
-            return Err(JournalFault::TooLong);
+            return Err(AppendFault::TooLong);
         }
         if store(host, self.file, self.bytes - 1, body).is_err() {
-            return Err(JournalFault::DiskFault);
+            return Err(AppendFault::DiskFault);
         }
         self.bytes += 5 + body.len() as u64;
         Ok(())

@@ -24,8 +24,8 @@ mod reading;
 mod start;
 mod store;
 
-pub use fault::JournalFault;
-pub use journal::{Journal, RECORD_LIMIT};
+pub use fault::{AppendFault, JournalFault};
+pub use journal::{EMPTY_SIZE, Journal, RECORD_LIMIT};
 pub use law::bytes_hold_one_journal;
 pub use reading::RecordList;
 pub use start::prepare;

@@ -102,7 +102,6 @@ fn check_header<H: Host>(
     ensures ahead { OnOk result
         (H.honest → ReadsAhead (contents (of file (H.seen host.old).past)) piece.new) }
     ensures past { H.honest → (H.seen host.new).past ≡ (H.seen host.old).past }
-    ensures not_too_long { IsErrOf result JournalFault.TooLong → ⊥ }
     ensures cause { HasCause (H.seen host.old).disk_faults (H.seen host.new).disk_faults
         (IsErrOf result JournalFault.DiskFault) }
     ensures output { (H.seen host.new).tell_faults ≡ (H.seen host.old).tell_faults }
@@ -188,7 +187,6 @@ fn body_at<H: Host>(
     ensures ahead { OnOk result
         (H.honest → ReadsAhead (contents (of file (H.seen host.old).past)) piece.new) }
     ensures past { H.honest → (H.seen host.new).past ≡ (H.seen host.old).past }
-    ensures not_too_long { IsErrOf result JournalFault.TooLong → ⊥ }
     ensures cause { HasCause (H.seen host.old).disk_faults (H.seen host.new).disk_faults
         (IsErrOf result JournalFault.DiskFault) }
     ensures output { (H.seen host.new).tell_faults ≡ (H.seen host.old).tell_faults }
@@ -227,7 +225,6 @@ fn read_next<H: Host>(
     ensures ahead { OnOk result
         (H.honest → ReadsAhead (contents (of file (H.seen host.old).past)) piece.new) }
     ensures past { H.honest → (H.seen host.new).past ≡ (H.seen host.old).past }
-    ensures not_too_long { IsErrOf result JournalFault.TooLong → ⊥ }
     ensures cause { HasCause (H.seen host.old).disk_faults (H.seen host.new).disk_faults
         (IsErrOf result JournalFault.DiskFault) }
     ensures output { (H.seen host.new).tell_faults ≡ (H.seen host.old).tell_faults }
@@ -270,7 +267,6 @@ pub(crate) fn read_records<H: Host>(
     ensures broken { IfErr result (λ fault. IfNotAJournal fault (λ end. H.honest
         → FailsFrom 16 (contents (of file (H.seen host.old).past)) end)) }
     ensures past { H.honest → (H.seen host.new).past ≡ (H.seen host.old).past }
-    ensures not_too_long { IsErrOf result JournalFault.TooLong → ⊥ }
     ensures cause { HasCause (H.seen host.old).disk_faults (H.seen host.new).disk_faults
         (IsErrOf result JournalFault.DiskFault) }
     ensures output { (H.seen host.new).tell_faults ≡ (H.seen host.old).tell_faults }
@@ -299,7 +295,6 @@ pub(crate) fn read_journal<H: Host>(
     ensures broken { IfErr result (λ fault. IfNotAJournal fault (λ place. H.honest
         → FailsAt generation (contents (of file (H.seen host.old).past)) place)) }
     ensures past { H.honest → (H.seen host.new).past ≡ (H.seen host.old).past }
-    ensures not_too_long { IsErrOf result JournalFault.TooLong → ⊥ }
     ensures cause { HasCause (H.seen host.old).disk_faults (H.seen host.new).disk_faults
         (IsErrOf result JournalFault.DiskFault) }
     ensures output { (H.seen host.new).tell_faults ≡ (H.seen host.old).tell_faults }

@@ -4,6 +4,7 @@ ghost use Rattle.host_model.specs.Past.{of};
 ghost use Rattle.host_model.specs.Cause.{HasCause};
 ghost use Rattle.host_model.specs.Moments.{Throughout, EveryImage, OnlyOn};
 ghost use Rattle.journal_core.specs.Form.{header, StandsFor};
+ghost use Rattle.journal_core.specs.declared.journal.TheConstants.{EMPTY_SIZE};
 
 use crate::fault::JournalFault;
 use crate::form::header_of;
@@ -22,14 +23,14 @@ pub fn prepare<H: Host>(host: &mut H, file: File, generation: u64) -> Result<(),
         → Throughout (OnlyOn file (H.seen host.old).past) (H.seen host.old).past
         (H.seen host.new).past }
 
-    // Where the file was synced with at most the 17 bytes of an empty journal, no crash leaves more.
+    // Where the file was synced with at most the bytes of an empty journal, no crash leaves more.
     ensures short { H.honest → IsSynced (of file (H.seen host.old).past)
-        → length (contents (of file (H.seen host.old).past)) ≤ 17
-        → Throughout (EveryImage file (λ bytes. length bytes ≤ 17)) (H.seen host.old).past
+        → length (contents (of file (H.seen host.old).past)) ≤ EMPTY_SIZE
+        → Throughout (EveryImage file (λ bytes. length bytes ≤ EMPTY_SIZE)) (H.seen host.old).past
         (H.seen host.new).past }
 
     // No crash leaves a file that is longer than it could be before, or than an empty journal.
-    ensures bound { (size : ℕ) → 17 ≤ size → H.honest
+    ensures bound { (size : ℕ) → EMPTY_SIZE ≤ size → H.honest
         → greatest (of file (H.seen host.old).past) ≤ size
         → Throughout (λ past. greatest (of file past) ≤ size) (H.seen host.old).past
         (H.seen host.new).past }
@@ -53,7 +54,7 @@ fn put_down<H: Host>(host: &mut H, file: File, head: [u8; 16]) -> Result<(), Fai
     ensures any_moment { H.honest
         → Throughout (OnlyOn file (H.seen host.old).past) (H.seen host.old).past
         (H.seen host.new).past }
-    ensures bound { (size : ℕ) → 17 ≤ size → H.honest
+    ensures bound { (size : ℕ) → EMPTY_SIZE ≤ size → H.honest
         → greatest (of file (H.seen host.old).past) ≤ size
         → Throughout (λ past. greatest (of file past) ≤ size) (H.seen host.old).past
         (H.seen host.new).past }

@@ -274,8 +274,6 @@ count-within acts start begin stream text taker host has within = omega (arith, 
 -- ---- one step of a run
 
 module _ {T H : Type 0} (acts : Acts T H) (start : T) (begin : H) (stream : Stream) (text : List ℕ) (taker : T) (host : H) (has : HasTaken acts stream start begin text taker host) where
-  }
-
   -- the taker was told the end
   pub end-told : (status : Status) (lines_taken : ℕ) (held : List ℕ) (new : T) (host' : H) → lines_taken ≡ stream.count → held ≡ stream.splitter.rest → acts.ends taker host lines_taken held status new host'
       → acts.ends taker host (length (lines text)) (rest text) status new host'

@@ -5,11 +5,12 @@ use Rattle.host_model.specs.Source.{Takes}
 use Rattle.host_model.specs.declared.status.Status.{Status}
 use Rattle.host_model.specs.declared.status.Status.TheVariants.{ReadFault, InputLimit, Memory}
 use Rattle.plugin_text.specs.Lines.{parts, lines, rest, fits, HasNoLongLine, BeginsWithLines}
+use Rattle.line_stream.specs.declared.stream.TheConstants.{INPUT_LIMIT}
 use Rattle.line_stream.specs.Chain.{Acts, Chain, HasPaused}
 
--- 2^40 bytes: no run takes more of its input
+-- how many bytes of its input a run takes at most
 abbrev pub input_limit : ℕ
-input_limit = 1099511627776
+input_limit = INPUT_LIMIT
 
 -- these lines of the text were taken, and none of them is too long
 pub record TookPrefix {T H : Type 0} (acts : Acts T H) (taker : T) (host : H) (text : List ℕ) (prefix : List (List ℕ)) (taker' : T) (host' : H) : Type 0 where

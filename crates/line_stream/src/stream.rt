@@ -1,9 +1,10 @@
-ghost use Rattle.std.specs.Prelude.{◌≡◌, ℕ, ◌+◌, ◌^◌, ◌<◌, ◌≤◌, ◌++◌, true, List, [], length, Option, None, IsErrOf, IsOk, OnOk, IfOk, IfErr};
+ghost use Rattle.std.specs.Prelude.{◌≡◌, ℕ, ◌+◌, ◌<◌, ◌≤◌, ◌++◌, true, List, [], length, Option, None, IsErrOf, IsOk, OnOk, IfOk, IfErr};
 ghost use Rattle.std.specs.List.{AllPass};
 ghost use Rattle.history.specs.Limits.{is_one_line};
 ghost use Rattle.host_model.specs.Cause.{Rose};
 ghost use Rattle.plugin_text.specs.Lines.{fits, lines, rest};
 ghost use Rattle.line_stream.specs.Chain.{Chain};
+ghost use Rattle.line_stream.specs.declared.stream.TheConstants.{INPUT_LIMIT};
 ghost use Rattle.line_stream.specs.Run.{input_limit, Ended, Ran, Steps, Stops};
 ghost use Rattle.line_stream.specs.Stream.{HandsOver, HasTaken, IsFresh, next_number};
 
@@ -12,7 +13,7 @@ use host_model::{Host, Source, Status};
 use plugin_text::{LineFault, LineList, Splitter};
 use std::alloc::Global;
 
-/// The most bytes that are taken of an input: 2^40.
+/// The most bytes that are taken of an input.
 pub const INPUT_LIMIT: usize = 1 << 40;
 
 /// How many bytes are asked of the source at once.
@@ -36,7 +37,7 @@ fn hand_line<H: Host, T: Taker<H>>(
     line: &[u8],
 ) -> Result<(), Status>
     requires ready { T.ready taker.old host.old (count.old + 1) }
-    requires few { count.old < 2 ^ 40 }
+    requires few { count.old < INPUT_LIMIT }
     requires short { fits line.now ≡ true }
     requires whole { is_one_line line.now ≡ true }
     ensures takes { T.acts.takes
@@ -58,7 +59,7 @@ fn hand_over<H: Host, T: Taker<H>>(
     lines: &LineList,
 ) -> Result<(), Status>
     requires ready { T.ready taker.old host.old (count.old + 1) }
-    requires few { count.old + length lines.now ≤ 2 ^ 40 }
+    requires few { count.old + length lines.now ≤ INPUT_LIMIT }
     requires short { AllPass fits lines.now }
     requires whole { AllPass is_one_line lines.now }
     ensures handed { (start : T) (begin : H) (prefix : List (List ℕ)) → length prefix ≡ count.old
@@ -217,7 +218,7 @@ fn take_pieces<S: Source, H: Host, T: Taker<H>>(
 
 /// Takes a text from the source, hands its lines to the taker, and says how the run ended.
 ///
-/// No more than 2^40 bytes are taken. Where just so many were and none of them ended the run, the answer is
+/// No more than `INPUT_LIMIT` bytes are taken. Where just so many were and none of them ended the run, the answer is
 /// `Status::InputLimit`, also where the source would fail next. Where a line is too long nothing behind it is
 /// handed over. The run may run out of memory at any place, and ends with `Status::Memory` then.
 pub fn take_text<S: Source, H: Host, T: Taker<H>>(

@@ -1,7 +1,8 @@
-ghost use Rattle.std.specs.Prelude.{◌≡◌, ℕ, ◌+◌, ◌^◌, ◌≤◌, true, OnOk};
+ghost use Rattle.std.specs.Prelude.{◌≡◌, ℕ, ◌+◌, ◌≤◌, true, OnOk};
 ghost use Rattle.history.specs.Limits.{is_one_line};
 ghost use Rattle.plugin_text.specs.Lines.{fits};
 ghost use Rattle.line_stream.specs.Chain.{Acts};
+ghost use Rattle.line_stream.specs.declared.stream.TheConstants.{INPUT_LIMIT};
 
 use host_model::{Host, Status};
 
@@ -19,7 +20,7 @@ pub trait Taker<H: Host> {
     /// Takes a line, which stands there without its line feed. `Err` says how the run ends.
     fn take_line(&mut self, host: &mut H, number: u64, line: &[u8]) -> Result<(), Status>
         requires ready { ready self.old host.old number }
-        requires few { number ≤ 2 ^ 40 }
+        requires few { number ≤ INPUT_LIMIT }
         requires short { fits line.now ≡ true }
         requires whole { is_one_line line.now ≡ true }
         ensures takes { acts.takes self.old host.old number line.now result self.new host.new }
@@ -36,13 +37,13 @@ pub trait Taker<H: Host> {
     /// ends.
     fn end(&mut self, host: &mut H, lines: u64, rest: &[u8]) -> Status
         requires ready { ready self.old host.old (lines + 1) }
-        requires few { lines ≤ 2 ^ 40 }
+        requires few { lines ≤ INPUT_LIMIT }
         requires short { fits rest.now ≡ true }
         ensures ends { acts.ends self.old host.old lines rest.now result self.new host.new };
 
     /// The line with this number is too long. Says how the run ends.
     fn overflow(&mut self, host: &mut H, number: u64) -> Status
         requires ready { ready self.old host.old number }
-        requires few { number ≤ 2 ^ 40 + 1 }
+        requires few { number ≤ INPUT_LIMIT + 1 }
         ensures overflows { acts.overflows self.old host.old number result self.new host.new };
 }

@@ -197,5 +197,3 @@ frame_is held f fits there whole is =
     let prefix : u32_bytes (said held) ≡ take 4 held = little_bytes-little_number 4 held fits there in
     sym (take-append-drop 4 held) ∙ ap (λ (bs : List ℕ). bs ++ drop 4 held) (sym prefix) ∙ ap (λ (bs : List ℕ). u32_bytes (said held) ++ bs) is
     ∙ ap (λ (n : ℕ). u32_bytes n ++ body_bytes f) size
-
-}

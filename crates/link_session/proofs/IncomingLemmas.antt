@@ -122,8 +122,6 @@ module _ (old : Incoming) (left left' : Option (List ℕ)) (frames : List Frame)
         behind = fed.behind;
       }
 
-  }
-
   -- the link failed, or the peer sends no more
   pub at-pull : (fault : SessionFault) (left'' : Option (List ℕ)) → left'' ≡ left' → 0 < old.budget → (fault ≡ LinkFault) ⊎ (fault ≡ Ended) → (fault ≡ Ended → IfSome left'' (λ bytes. bytes ≡ []))
       → HasNoMore fault left left'' frames

@@ -3,6 +3,7 @@ use Rattle.std.specs.Prelude.{◌≡◌, ◌≤◌, ◌/◌, ◌%◌, ℕ, zero,
 use Rattle.std.specs.Int.{w128, cast_signed, cast_unsigned}
 use Rattle.byteorder.specs.Endian.{little_number, little_bytes}
 use Rattle.fixed_num.specs.declared.units.Record.{Record}
+use Rattle.page_buffer.specs.declared.records.TheConstants.{RECORD_SIZE}
 use Rattle.page_pool.specs.declared.node.TheConstants.{PAGE_SIZE}
 
 -- the first so many items of a size
@@ -25,7 +26,7 @@ signed_from bytes = cast_signed w128 (little_number 16 bytes)
 abbrev pub signed_bytes : ℤ → List ℕ
 signed_bytes z = little_bytes 16 (cast_unsigned w128 z)
 
--- the record of 56 bytes: minimum, maximum and sum, then the two counts
+-- a record in its `RECORD_SIZE` bytes: minimum, maximum and sum, then the two counts
 abbrev pub record_from : List ℕ → Record
 record_from bytes = record {
   min = signed_from bytes;
@@ -39,10 +40,10 @@ abbrev pub record_bytes : Record → List ℕ
 record_bytes r =
     signed_bytes r.min ++ signed_bytes r.max ++ signed_bytes r.sum ++ little_bytes 4 r.count ++ little_bytes 4 r.anomalies
 
--- the records of 56 bytes
+-- the records, each of `RECORD_SIZE` bytes
 abbrev pub records_of : List ℕ → List Record
-records_of bytes = items_in record_from 56 (length bytes / 56) bytes
+records_of bytes = items_in record_from RECORD_SIZE (length bytes / RECORD_SIZE) bytes
 
 -- they are whole records, of one page
 abbrev pub IsRecords : List ℕ → Type 0
-IsRecords bytes = (length bytes % 56 ≡ 0) × (length bytes ≤ PAGE_SIZE)
+IsRecords bytes = (length bytes % RECORD_SIZE ≡ 0) × (length bytes ≤ PAGE_SIZE)

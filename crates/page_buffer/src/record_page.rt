@@ -92,6 +92,14 @@ impl RecordPage {
         Some(self.records.get(place))
     }
 
+    /// The record at a place.
+    pub fn record(&self, place: u32) -> Record
+        requires { place < length self.now.items }
+        ensures { slice_get self.now.items place ≡ Some result }
+    {
+        self.records.get(place as usize)
+    }
+
     /// Series, first moment, step, and how many records there are.
     pub fn head(&self) -> (u32, u32, u32, u32)
         ensures { result ≡ (self.now.series, self.now.first, self.now.step, length self.now.items) }

@@ -11,7 +11,7 @@ use std::marker::Model;
 /// How many bytes a record has in a page.
 pub const RECORD_SIZE: usize = 56;
 
-/// A page of up to 73 records of 56 bytes. Contracts see it as the list of the records.
+/// A page of up to `MOST_RECORDS` records. Contracts see it as the list of the records.
 #[derive(Drop)]
 pub(crate) struct Records {
     page: RawPage,
@@ -30,7 +30,7 @@ impl Model for Records {
     ghost invariant = { λ records. IsRecords records.page };
 }
 
-/// Adds the 56 bytes of a record at the end of a page that has room for them.
+/// Adds the bytes of a record at the end of a page that has room for them.
 fn append_record(page: &mut RawPage, item: Record)
     requires { length page.old + RECORD_SIZE ≤ PAGE_SIZE }
     ensures { page.new ≡ page.old ++ record_bytes item }
@@ -42,7 +42,7 @@ fn append_record(page: &mut RawPage, item: Record)
     append(page, &item.anomalies.to_le_bytes());
 }
 
-/// The record that 56 bytes spell.
+/// The record that the first `RECORD_SIZE` bytes spell.
 fn record_from(bytes: &[u8]) -> Record
     requires { RECORD_SIZE ≤ length bytes.now }
     ensures { result ≡ record_from bytes.now }

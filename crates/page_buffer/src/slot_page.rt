@@ -141,6 +141,14 @@ impl SlotPage {
         }
     }
 
+    /// The word in the slot at a place, which is 0 where the slot is empty.
+    pub fn word(&self, place: u32) -> u32
+        requires { place < length self.now.items }
+        ensures { slice_get self.now.items place ≡ Some result }
+    {
+        self.words.get(place as usize)
+    }
+
     /// Series, first moment, step, and how many slots there are, the empty ones too.
     pub fn head(&self) -> (u32, u32, u32, u32)
         ensures { result ≡ (self.now.series, self.now.first, self.now.step, length self.now.items) }

@@ -1,5 +1,5 @@
 -- What a line that was taken changes, and why one was not.
-use Rattle.std.proofs.Common.{◌≡◌, ◌≤◌, ℕ, ◌+◌, Bool, true, false, true≢false, List, [], ◌∷◌, length, Option, None, is_some, Result, Ok, Err, refl, sym, ap, ◌∙◌, arith}
+use Rattle.std.proofs.Common.{◌≡◌, ◌≤◌, ℕ, ◌+◌, Bool, true, false, List, [], ◌∷◌, length, Option, None, is_some, Result, Ok, Err, refl, sym, ap, ◌∙◌, arith}
 use Rattle.std.proofs.lemmas.List.Elements.{All-cons}
 use Rattle.std.specs.Option.{option_map_or}
 use Rattle.history.specs.declared.fault.BlockFault.{BlockFault}
@@ -8,7 +8,7 @@ use Rattle.history.specs.declared.line.Line.{Line}
 use Rattle.history.specs.declared.line.Line.TheVariants as line
 use Rattle.history.specs.History.{child, last, registry_of}
 use Rattle.history.specs.Limits.{keeps_limits}
-use Rattle.history.specs.Read.{is_disable, refusal_at}
+use Rattle.history.specs.Read.{refusal_at}
 use Rattle.history.specs.Refusal.{refusal as refusal_by}
 use Rattle.history.specs.Registry.{Registry}
 use Rattle.plugin_text.specs.declared.fault.LineFault.TheVariants as fault
@@ -23,7 +23,7 @@ use Rattle.point_lines.specs.declared.stop.Stop.TheVariants as stop
 use Rattle.point_lines.specs.Judged.{every, history_of, placed}
 use Rattle.point_lines.specs.Reader.{IsReaderOf, StopsFor}
 use Rattle.point_lines.specs.Steps.{Stepped, block_stop, skips}
-use Rattle.point_lines.specs.Told.{skipped, told_at}
+use Rattle.point_lines.specs.Told.{skipped}
 
 -- ---- the counts
 pub skipped-within : (past : List Line) → skipped past ≤ length past
@@ -109,7 +109,6 @@ module _ (past : List Line) (said : Line) where
   stops-block new block.TooManyDimensions reason is by out = (ap answer (sym is ∙ by), refl)
   stops-block new block.Memory reason is by out = tt
 
-module _ (past : List Line) (bytes : List ℕ) where
 -- ---- a line that may stand there is counted
 module _ (old : Reader) (past : List Line) (said : Line) (leads_to : Step) (feed : Feed) where
   abbrev counted : Reader
@@ -130,32 +129,3 @@ module _ (old : Reader) (past : List Line) (said : Line) (leads_to : Step) (feed
     limits = All-cons (λ (line : Line). keeps_limits line ≡ true) said past limits has.limits;
     step_is = step_is;
   }
-
--- ---- a line that closes no beat
-abbrev is_quiet : Step → Bool
-is_quiet step.Nothing = true
-is_quiet (step.Query text) = true
-is_quiet other = false
-
--- the line leaves the history as it is, and the text goes on
-record IsQuiet (past : List Line) (said : Line) : Type 0 where
-  pub stays : history_of (said ∷ past) ≡ history_of past
-  pub tells : told_at past said ≡ []
-  pub goes_on : is_disable said ≡ false
-
-quiet : (past : List Line) (said : Line) → is_quiet (step_of every past said) ≡ true → IsQuiet past said
-quiet past (line.Chart def) is = record { stays = refl; tells = refl; goes_on = refl }
-quiet past (line.Dimension def) is = record { stays = refl; tells = refl; goes_on = refl }
-quiet past (line.Begin chart) is = record { stays = refl; tells = refl; goes_on = refl }
-quiet past (line.Set id value anomalous) is = record { stays = refl; tells = refl; goes_on = refl }
-quiet past line.End is = record { stays = refl; tells = refl; goes_on = refl }
-quiet past line.Flush is = record { stays = refl; tells = refl; goes_on = refl }
-quiet past line.Disable is = absurd (true≢false (sym is))
-quiet past (line.Moment moment) is = absurd (true≢false (sym is))
-quiet past (line.Query text) is = record { stays = refl; tells = refl; goes_on = refl }
-quiet past line.Skipped is = record { stays = refl; tells = refl; goes_on = refl }
-
-module _ (reader : Reader) (past : List Line) (said : Line) (leads_to : Step) (stepped : Stepped reader past said leads_to) (out : List ℕ) where
-)
-
-module _ (reader : Reader) (past : List Line) (said : Line) (out : List ℕ) where

@@ -133,8 +133,6 @@ syncs_opened file old new below only same moments = record {
   own = own_of file old new below only;
 }
 
-}
-
 pub both_synced : {T E : Type 0} (value : T) (fault : E) (old new : List Event) → IsErrOf {T = T} {E = E} (Ok value) fault ⊎ (new ≡ On CheckB Synced ∷ (On CheckA Synced ∷ old))
     → IsSynced (of CheckA new) × IsSynced (of CheckB new)
 both_synced value fault old new (inl never) = absurd (cc)

@@ -22,7 +22,7 @@ use Rattle.store_core.proofs.PageProofs.SlotRuns.{span_of, IsPage}
 
 page_is : (page : SlotPage) → IsPage page → is_slot_page page ≡ true
 page_is page is =
-    and_from _ _ (and_from _ _ (and_from _ _ (and_from _ _ (le-leb (length page.words) 1024 is.few) (lt-ltb 0 page.step (omega (arith, is.least)))) is.spread) is.slots)
+    and_from _ _ (and_from _ _ (and_from _ _ (le-leb (length page.words) 1024 is.few) (lt-ltb 0 page.step (omega (arith, is.least)))) is.spread)
     (lt-ltb (page.first + (length page.words - 1) * page.step) (2 ^ 32) is.ends)
 
 pub pages_are : (pages : List SlotPage) → AllByRecursion IsPage pages → list_all is_slot_page pages ≡ true

@@ -1,7 +1,7 @@
 -- The pages of points in the order of their series, then moments: each has its form, and their order is kept.
-use Rattle.std.proofs.Common.{◌≡◌, ◌≢◌, ℕ, zero, suc, ◌+◌, ◌-◌, ◌*◌, ◌^◌, ◌<◌, ◌≤◌, Bool, true, List, [], ◌∷◌, ◌++◌, length, map, replicate, Some, refl, sym, ap, subst, ◌∙◌, arith, append_assoc, length-append, lit<}
-use Rattle.std.specs.List.{list_all, AllByRecursion}
-use Rattle.std.proofs.lemmas.Bool.{and_from, and_parts, eqb-true, false≢true, lt-ltb, or_right}
+use Rattle.std.proofs.Common.{◌≡◌, ◌≢◌, ℕ, zero, suc, ◌+◌, ◌-◌, ◌*◌, ◌^◌, ◌<◌, ◌≤◌, true, List, [], ◌∷◌, ◌++◌, length, map, replicate, Some, refl, sym, ap, subst, ◌∙◌, arith, append_assoc, length-append, lit<}
+use Rattle.std.specs.List.{AllByRecursion}
+use Rattle.std.proofs.lemmas.Bool.{and_from, and_parts, eqb-true, false≢true, lt-ltb}
 use Rattle.std.proofs.lemmas.List.{length-replicate}
 use Rattle.list_lemmas.proofs.Every.{all-append}
 use Rattle.storage_number.specs.Step.{steps}
@@ -10,7 +10,7 @@ use Rattle.beat_tiers.specs.declared.item.Item.{Item}
 use Rattle.beat_tiers.specs.declared.item.Stepped.{Stepped}
 use Rattle.checkpoint_body.specs.declared.item.Point.{Point}
 use Rattle.checkpoint_body.specs.declared.page.SlotPage.{SlotPage}
-use Rattle.checkpoint_body.specs.Canonical.{is_slot, spaced}
+use Rattle.checkpoint_body.specs.Canonical.{spaced}
 use Rattle.checkpoint_body.specs.Fields.{FitsWord}
 use Rattle.checkpoint_body.specs.Slots.{slot_page_of, slot_pages, with_point, with_word}
 use Rattle.checkpoint_body.proofs.SlotLemmas.{takes_is}
@@ -40,14 +40,6 @@ spaced-gap : (empty count word : ℕ) → word ≢ 0 → empty + count ≤ 6 →
 spaced-gap empty zero word some few = spaced-word empty word some
 spaced-gap empty (suc count) word some few = and_from _ _ (lt-ltb empty 6 (omega arith)) (spaced-gap (empty + 1) count word some (omega arith))
 
-list_all-both : {X : Type 0} (p : X → Bool) (xs ys : List X) → list_all p xs ≡ true → list_all p ys ≡ true → list_all p (xs ++ ys) ≡ true
-list_all-both p [] ys left right = right
-list_all-both p (x ∷ xs) ys left right = let parts = and_parts _ _ left in and_from _ _ parts.0 (list_all-both p xs ys parts.1 right)
-
-slots-gap : (count word : ℕ) → is_word word ≡ true → list_all is_slot (replicate count 0 ++ word ∷ []) ≡ true
-slots-gap zero word is = and_from _ _ (or_right _ _ is) refl
-slots-gap (suc count) word is = slots-gap count word is
-
 fits-gap : (count word : ℕ) → word < 2 ^ 32 → AllByRecursion FitsWord (replicate count 0 ++ word ∷ [])
 fits-gap zero word fits = (fits, tt)
 fits-gap (suc count) word fits = (lit< tt, fits-gap count word fits)
@@ -75,7 +67,6 @@ pub record IsPage (page : SlotPage) : Type 0 where
   pub some : 1 ≤ length page.words
   pub few : length page.words ≤ 1024
   pub spread : spaced 6 page.words ≡ true
-  pub slots : list_all is_slot page.words ≡ true
   pub fits : AllByRecursion FitsWord page.words
   pub ends : page.first + (length page.words - 1) * page.step < 2 ^ 32
 
@@ -87,7 +78,6 @@ page_begun point is = record {
   some = omega arith;
   few = omega arith;
   spread = spaced-word 6 point.word (word_some point.word is.word);
-  slots = and_from _ _ (or_right _ _ is.word) refl;
   fits = (is.fits, tt);
   ends = omega (arith, is.moment);
 }
@@ -116,7 +106,6 @@ page_added page point empty was is few room moment =
         few = omega (arith, count, room);
         spread = subst (λ (l : List ℕ). spaced 6 l ≡ true) (sym words)
             (spaced-append 6 page.words more was.spread (spaced-gap 0 empty point.word (word_some point.word is.word) (omega (arith, few))));
-        slots = subst (λ (l : List ℕ). list_all is_slot l ≡ true) (sym words) (list_all-both is_slot page.words more was.slots (slots-gap empty point.word is.word));
         fits = subst (AllByRecursion FitsWord) (sym words) (all-append FitsWord page.words more was.fits (fits-gap empty point.word is.fits));
         ends = subst (λ (n : ℕ). n < 2 ^ 32) (sym end) is.moment;
       },

@@ -11,7 +11,7 @@ use Rattle.store_core.specs.disk.Shares.{share}
 use Rattle.store_core.specs.Counts.{raised}
 use Rattle.store_core.specs.Store.{IsReady, IsStoreOf, StoreState}
 use Rattle.store_core.specs.Stored.{stored_with}
-use Rattle.store_core.proofs.FollowLemmas.{added_is, append_moments, fits_share, may_follow, nothing_done, one_more, ready_more, unsealed}
+use Rattle.store_core.proofs.FollowLemmas.{added_is, append_moments, files_ready, fits_share, may_follow, nothing_done, one_more, ready_more, unsealed}
 use Rattle.store_core.proofs.store.Store.add.Goals as goal
 
 -- where nothing was written

@@ -1,4 +1,4 @@
-use Rattle.std.proofs.Common.{◌≡◌, ◌⊎◌, Err, inl, inr, sym, ap, ◌∙◌}
+use Rattle.std.proofs.Common.{◌≡◌, ◌⊎◌, Err, inl, inr, refl, sym, ap, ◌∙◌}
 use Rattle.std.specs.Result.{IsErrOf}
 use Rattle.std.proofs.lemmas.Bool.{false≢true}
 use Rattle.host_model.specs.Disks.{reads_as}
@@ -80,7 +80,7 @@ returns-in-Err-clause-made_moment g c h made =
 pub returns-in-Ok-create-clause-ready : goal.returns-in-Ok-create-clause-ready
 returns-in-Ok-create-clause-ready g c =
     let first = c.in-Ok.ensures in
-    new-ready g.H.Host.honest (g.H.Host.seen c.create.new.host).past _ c.args.settings.now first.spelt first.empty first.tiers
+    new-ready g.H.Host.honest (g.H.Host.seen c.create.new.host).past _ c.args.settings.now refl first.spelt first.empty first.tiers
     c.in-Ok-new_tiers.ensures c.new.ensures (sym (ap (λ (b : Body). b.count) first.body)) c.in-Ok-create.ensures.ready.place (λ h. c.in-Ok-create.ensures.created h)
 
 pub returns-in-Ok-create-clause-any_moment : goal.returns-in-Ok-create-clause-any_moment
