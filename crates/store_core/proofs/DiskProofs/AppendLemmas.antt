@@ -1,5 +1,6 @@
 -- A record more, at each moment and in the end.
-use Rattle.std.proofs.Common.{◌≡◌, ℕ, List, [], ◌∷◌, ◌++◌, sym, ap, ◌∙◌, subst, inl, inr, ⊎_elim}
+use Rattle.std.proofs.Common.{◌≡◌, ℕ, true, List, [], ◌∷◌, ◌++◌, Result, Ok, Err, refl, sym, ap, ◌∙◌, subst, inl, inr, ⊎_elim}
+use Rattle.std.specs.Result.{is_err, IsErrOf}
 use Rattle.host_model.specs.declared.file.File.{File}
 use Rattle.host_model.specs.Images.{contents, IsImage}
 use Rattle.host_model.specs.Past.{Event, of}
@@ -7,12 +8,20 @@ use Rattle.host_model.specs.Disks.{EveryDisk}
 use Rattle.host_model.specs.Moments.{Throughout, EveryImage, OnlyOn}
 use Rattle.host_model.proofs.DiskLemmas.{beside_both, every_disk}
 use Rattle.host_model.proofs.FileLemmas.{image_when_synced}
+use Rattle.journal_core.specs.declared.fault.AppendFault.{AppendFault}
+use Rattle.journal_core.specs.declared.fault.AppendFault.TheVariants.{DiskFault, TooLong}
 use Rattle.journal_core.specs.Form.{StandsFor}
 use Rattle.journal_core.specs.Journal.{IsOpen, JournalState, StandsForEither}
 use Rattle.store_core.specs.disk.Contents.{Contents, with_record}
 use Rattle.store_core.specs.disk.Files.{FilesState, IsOpenOf}
 use Rattle.store_core.specs.disk.Holds.{journal_file, Holds, HoldsAround}
 use Rattle.store_core.proofs.DiskProofs.HoldLemmas.{around_ends, journal_differs}
+
+-- a record that is not too long is not added only where the disk failed
+pub append_failed : (result : Result (Unit {0}) AppendFault) → is_err result ≡ true → (IsErrOf result TooLong → ⊥) → IsErrOf result DiskFault
+append_failed (Ok done) failed short = absurd cc
+append_failed (Err DiskFault) failed short = refl
+append_failed (Err TooLong) failed short = absurd (short refl)
 
 module _ (past : List Event) (files : FilesState) (what : Contents) (is : IsOpenOf past files what) where
   pub journal_place : files.journal.file ≡ journal_file what.number

@@ -155,7 +155,6 @@ pub(crate) fn open_journal<H: Host>(
         Err(JournalFault::NotAJournal(_)) => Err(FilesFault::Damaged(JOURNAL_PART)),
         Err(JournalFault::DiskFault) => Err(FilesFault::DiskFault),
         Err(JournalFault::Memory) => Err(FilesFault::Memory),
-        Err(JournalFault::TooLong) => unreachable!(),
     }
 }
 

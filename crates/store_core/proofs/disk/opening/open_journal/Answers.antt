@@ -43,9 +43,6 @@ returns-in-Err-NotAJournal-clause-broken g c is h records stands =
     ap (λ (f : File). reads_as old f) (sym c.journal_file_of-file.ensures) ∙ sym ((c.in_ok-settle.ensures.syncs h).same file) ∙ sym (c.open.ensures.same_bytes h) in
     fails.broken (records, subst (λ (l : List ℕ). StandsFor c.args.number l records) same stands)
 
-pub unreachable-requires : goal.unreachable-requires
-unreachable-requires g c = c.in-Err-TooLong.ensures.not_too_long (ap Err c.in-Err-TooLong.field-0-is)
-
 pub returns-in-Ok-clause-syncs : goal.returns-in-Ok-clause-syncs
 returns-in-Ok-clause-syncs g c h =
     let old = (g.H.Host.seen c.args.host.now).past in
