@@ -2,6 +2,7 @@ pub mod AdvanceLemmas
 pub mod AppendLemmas
 pub mod BeginLemmas
 pub mod ExtentLemmas
+pub mod FaultLemmas
 pub mod HoldLemmas
 pub mod ItemLemmas
 pub mod ListLemmas
