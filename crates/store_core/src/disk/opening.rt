@@ -52,7 +52,10 @@ pub(crate) struct Checkpoint {
 }
 
 /// Loads the checkpoint that counts.
-pub(crate) fn load_checkpoint<H: Host>(alloc: Global, host: &mut H) -> Result<Checkpoint, FilesFault>
+pub(crate) fn load_checkpoint<H: Host>(
+    alloc: Global,
+    host: &mut H,
+) -> Result<Checkpoint, FilesFault>
     ensures loaded { IfOk result (λ found. H.honest
         → HasCheckpoint found.number found.body (reads_as (H.seen host.old).past)) }
     ensures spelt { IfOk result (λ found. HasSpelling found.body) }
@@ -62,6 +65,7 @@ pub(crate) fn load_checkpoint<H: Host>(alloc: Global, host: &mut H) -> Result<Ch
         → checkpoint_in (reads_as (H.seen host.old).past) ≡ None }
     ensures damaged { (part : ℕ) → IsErrOf result (FilesFault.Damaged part) → H.honest
         → IsDamagedAt part (reads_as (H.seen host.old).past) }
+    ensures early { (part : ℕ) → IsErrOf result (FilesFault.Damaged part) → part ≤ 2 }
     ensures faults { IfErr result IsOpenFault }
     ensures syncs { H.honest → OnlySyncs (H.seen host.old).past (H.seen host.new).past }
     ensures cause { HasCause (H.seen host.old).disk_faults (H.seen host.new).disk_faults
