@@ -2,8 +2,10 @@ pub mod AdvanceLemmas
 pub mod AppendLemmas
 pub mod BeginLemmas
 pub mod ExtentLemmas
+pub mod FaultLemmas
 pub mod HoldLemmas
 pub mod ItemLemmas
+pub mod LeftLemmas
 pub mod ListLemmas
 pub mod MomentLemmas
 pub mod NamedLemmas

@@ -224,7 +224,7 @@ sound_more kept stored store after beat whole sound form later none_new same_bod
 pub journal-open : (past : List Event) (opened : FilesState) (contents : Contents) → IsOpenOf past opened contents → files.IsJournalOpen past opened
 journal-open past opened contents is = record {
   records = contents.records;
-  open = subst (λ (n : ℕ). IsOpen (of (journal_file n) past) opened.journal contents.records) (sym is.number) is.journal;
+  is_open = subst (λ (n : ℕ). IsOpen (of (journal_file n) past) opened.journal contents.records) (sym is.number) is.journal;
 }
 
 -- a fault changes nothing of what a store is of

@@ -1,11 +1,12 @@
 -- What a store is when it was made or opened.
-use Rattle.std.proofs.Common.{◌≡◌, ◌⊎◌, ℕ, true, false, ◌^◌, ◌<◌, ◌≤◌, ◌+◌, List, [], length, Some, None, inl, inr, arith, refl, sym, ap, ◌∙◌, subst}
+use Rattle.std.proofs.Common.{◌≡◌, ◌⊎◌, ℕ, true, false, ◌^◌, ◌<◌, ◌≤◌, ◌+◌, List, [], length, Option, is_some, Some, None, inl, inr, arith, refl, sym, ap, ◌∙◌, subst}
 use Rattle.std.proofs.lemmas.Option.{none-some, same_Some}
 use Rattle.host_model.specs.declared.file.File.{File}
 use Rattle.host_model.specs.Disks.{EveryDisk}
 use Rattle.host_model.specs.Past.{Event, IsDisk}
 use Rattle.beat_tiers.specs.Sound.{AreSound}
 use Rattle.beat_tiers.specs.State.{TiersState, no_beats}
+use Rattle.checkpoint.specs.Files.{Slot}
 use Rattle.checkpoint_body.specs.declared.body.Body.{Body}
 use Rattle.checkpoint_body.specs.Body.{body_bytes, HasSpelling}
 use Rattle.store_core.specs.disk.Advancing.{NamesNone}
@@ -29,12 +30,12 @@ use Rattle.tier_settings.specs.declared.settings.Settings.{Settings}
 use Rattle.tier_settings.specs.Settings.{first_tier, other_tiers}
 use Rattle.store_core.specs.bodies.Next.{HasCounted}
 use Rattle.store_core.specs.Damaged.{HasForm}
-use Rattle.store_core.specs.Stands.{records_of, HasStored, Stands, StandsIfMade}
+use Rattle.store_core.specs.Stands.{is_made, records_of, HasStored, Stands, StandsIfMade}
 use Rattle.store_core.specs.Store.{base_of, IsReady, IsWhole, OpensAt, StoreState}
 use Rattle.store_core.specs.Stored.{new_database, stored_with_all, Stored}
 use Rattle.store_core.proofs.CountLemmas.{body-counted, none-counted, tiers-counted}
 use Rattle.store_core.proofs.RecordLemmas.{records-with_all}
-use Rattle.store_core.proofs.StandLemmas.{has-stored, images-at, none-made, records-read}
+use Rattle.store_core.proofs.StandLemmas.{has-stored, images-at, is-made, none-made, records-read}
 
 -- ---- any store
 
@@ -189,3 +190,7 @@ pub unread : (contents : Contents) → beats_from contents.body.last contents.re
 unread contents none stored has =
     let order = oldest_first stored.after in
     none-some order.rest (sym none ∙ records-read contents stored has order.rest order.whole)
+
+-- there is a database on a disk that is in form
+pub form-made : (body : Body) (beats : List Beat) (disk : File → List ℕ) → HasForm body beats disk → is_made disk ≡ true
+form-made body beats disk form = is-made disk ∙ ap (λ (slot : Option Slot). is_some slot) form.files.checkpoint.checkpoint

@@ -149,7 +149,7 @@ told-left honest sent past store is = record {
   broken = is.broken;
   tiers = is.tiers;
   waiting = is.waiting;
-  opened = λ going h. let was = is.opened going h in record { records = was.records; open = was.open };
+  opened = λ going h. let was = is.opened going h in record { records = was.records; is_open = was.is_open };
 }
 
 pub told-ready : (honest : Type 0) (sent : List ℕ) (past : List Event) (store : StoreState) → IsReady honest past store → IsReady honest (Told sent ∷ past) store

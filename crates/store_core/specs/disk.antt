@@ -2,6 +2,7 @@ pub mod Advancing
 pub mod Beginning
 pub mod Contents
 pub mod Damaged
+pub mod Faults
 pub mod Files
 pub mod Formed
 pub mod Holds

@@ -27,6 +27,8 @@ mod kept_items;
 mod kept_segments;
 mod kept_tiers;
 mod left;
+mod left_items;
+mod left_segments;
 mod next;
 mod next_extents;
 mod next_points;

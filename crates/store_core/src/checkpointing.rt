@@ -4,6 +4,7 @@ ghost use Rattle.std.specs.Prelude.{◌≡◌, ◌<◌, ◌≤◌, ◌^◌, ℕ,
 ghost use Rattle.host_model.specs.Cause.{HasCause};
 ghost use Rattle.host_model.specs.Disks.{EveryDisk};
 ghost use Rattle.host_model.specs.Moments.{Throughout};
+ghost use Rattle.journal_core.specs.declared.journal.TheConstants.{EMPTY_SIZE};
 ghost use Rattle.store_core.specs.disk.Holds.{OnlyOwn};
 ghost use Rattle.store_core.specs.disk.Shares.{share, IsWithin};
 ghost use Rattle.store_core.specs.Faults.{fault_after, IsStepFault, LeavesAll, Reopens};
@@ -13,7 +14,7 @@ ghost use Rattle.store_core.specs.Store.{can_advance, is_due, IsReady, IsReplaye
 ghost use Rattle.store_core.specs.Stored.{advanced, Stored as AStored};
 
 use crate::bodies::next_body;
-use crate::fault::{StoreFault, of_files};
+use crate::fault::StoreFault;
 use crate::store::Store;
 use fixed_num::ByteList;
 use host_model::Host;
@@ -105,7 +106,7 @@ impl Store {
         }) }
         ensures body { OnOk result ((self.new.body.settings ≡ self.old.body.settings)
             × (self.new.body.last ≡ self.old.tiers.last) × (self.new.body.side ≡ side)) }
-        ensures journal { OnOk result (self.new.files.journal.bytes ≡ 17) }
+        ensures journal { OnOk result (self.new.files.journal.bytes ≡ EMPTY_SIZE) }
         ensures ready { OnOk result (IsReady H.honest (H.seen host.new).past self.new) }
         ensures stays { OnErr result (self.new ≡ self.old) }
         ensures bound { (most : ℕ) → length side ≤ most → H.honest
@@ -122,12 +123,8 @@ impl Store {
         let Ok((body, sealed)) = made else {
             return Err(StoreFault::Memory);
         };
-        match self.files.checkpoint(self.alloc, host, &body, &sealed) {
-            Ok(()) => {
-                self.body = body;
-                Ok(())
-            }
-            Err(fault) => Err(of_files(fault)),
-        }
+        self.files.checkpoint(self.alloc, host, &body, &sealed)?;
+        self.body = body;
+        Ok(())
     }
 }

@@ -16,7 +16,7 @@ ghost use Rattle.store_core.specs.Stored.{new_database};
 
 use crate::beats::Waiting;
 use crate::bodies::first_body;
-use crate::fault::{StoreFault, of_files};
+use crate::fault::StoreFault;
 use crate::store::Store;
 use crate::tiers::new_tiers;
 use fixed_num::ByteList;
@@ -90,18 +90,16 @@ impl Store {
         let Ok(tiers) = new_tiers(alloc, settings) else {
             return Err(StoreFault::Memory);
         };
-        match crate::disk::create(alloc, host, &body) {
-            Ok(files) => Ok(Store {
-                alloc,
-                files,
-                body,
-                count: 0,
-                fault: None,
-                whole: true,
-                waiting: Waiting::new(alloc),
-                tiers,
-            }),
-            Err(fault) => Err(of_files(fault)),
-        }
+        let files = crate::disk::create(alloc, host, &body)?;
+        Ok(Store {
+            alloc,
+            files,
+            body,
+            count: 0,
+            fault: None,
+            whole: true,
+            waiting: Waiting::new(alloc),
+            tiers,
+        })
     }
 }

@@ -61,15 +61,23 @@ impl StoreFault {
     }
 }
 
+impl From<FilesFault> for StoreFault {
+    ghost from_gives = { λ fault given. given ≡ fault_of_files fault };
+
+    fn from(fault: FilesFault) -> StoreFault {
+        match fault {
+            FilesFault::DiskFault => StoreFault::DiskFault,
+            FilesFault::Exists => StoreFault::Exists,
+            FilesFault::NotADatabase => StoreFault::NotADatabase,
+            FilesFault::Damaged(part) => StoreFault::Damaged(part),
+            FilesFault::Memory => StoreFault::Memory,
+        }
+    }
+}
+
 /// What a fault of the files is of the store.
 pub(crate) fn of_files(fault: FilesFault) -> StoreFault
     ensures { result ≡ fault_of_files fault }
 {
-    match fault {
-        FilesFault::DiskFault => StoreFault::DiskFault,
-        FilesFault::Exists => StoreFault::Exists,
-        FilesFault::NotADatabase => StoreFault::NotADatabase,
-        FilesFault::Damaged(part) => StoreFault::Damaged(part),
-        FilesFault::Memory => StoreFault::Memory,
-    }
+    StoreFault::from(fault)
 }

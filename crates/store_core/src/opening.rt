@@ -287,8 +287,9 @@ impl Store {
         ensures output { (H.seen host.new).tell_faults ≡ (H.seen host.old).tell_faults }
     {
         match open_whole(alloc, host) {
+            Ok(store) => Ok(store),
             Err(StoreFault::Damaged(_)) => open_left(alloc, host),
-            found => found,
+            Err(fault) => Err(fault),
         }
     }
 }

@@ -1,6 +1,5 @@
 -- The tiers that a database has, and the next body that is made of them.
-use Rattle.std.proofs.Common.{◌≡◌, ℕ, ◌-◌, ◌<◌, List, [], ◌∷◌, length, get_or, map, slice_get, Some, None, arith, sym, ap, refl, ◌∙◌, subst}
-use Rattle.std.proofs.lemmas.Option.{none-some, same_Some, slice_get-get_or}
+use Rattle.std.proofs.Common.{◌≡◌, ℕ, List, [], ◌∷◌, length, get_or, map, arith, sym, ap, refl, ◌∙◌, subst}
 use Rattle.beat_tiers.specs.Room.{records_held, tiers_held, RecordTierHeld, TiersHeld}
 use Rattle.checkpoint_body.specs.declared.body.Body.{Body}
 use Rattle.store_core.specs.declared.disk.sealed.Sealed.{Sealed}
@@ -14,18 +13,13 @@ module _ (body : Body) where
   two-long (minutes ∷ hours ∷ []) are = refl
   two-long (minutes ∷ hours ∷ other ∷ others) are = absurd are
 
-pub two-are : (records : List RecordTierHeld) (minutes hours : RecordTierHeld) → length records ≡ 2 → slice_get records 0 ≡ Some minutes → slice_get records (length records - 1) ≡ Some hours
+pub two-are : (records : List RecordTierHeld) (minutes hours : RecordTierHeld) → length records ≡ 2 → minutes ≡ get_or records 0 minutes → hours ≡ get_or records 1 hours
     → records ≡ minutes ∷ hours ∷ []
-two-are [] minutes hours two first last = absurd (omega (arith, two))
-two-are (one ∷ []) minutes hours two first last = absurd (omega (arith, two))
-two-are (one ∷ other ∷ []) minutes hours two first last =
-    ap (λ (state : RecordTierHeld). state ∷ other ∷ []) (same_Some one minutes first) ∙ ap (λ (state : RecordTierHeld). minutes ∷ state ∷ []) (same_Some other hours last)
-two-are (one ∷ other ∷ third ∷ others) minutes hours two first last = absurd (omega (arith, two))
-
--- there is a tier at a place below their count
-pub is-there : (records : List RecordTierHeld) (place : ℕ) → place < length records → slice_get records place ≡ None → ⊥
-is-there [] place low none = omega (arith, low)
-is-there (one ∷ records) place low none = none-some (get_or (one ∷ records) place one) (sym none ∙ slice_get-get_or (one ∷ records) place one low)
+two-are [] minutes hours two first second = absurd (omega (arith, two))
+two-are (one ∷ []) minutes hours two first second = absurd (omega (arith, two))
+two-are (one ∷ other ∷ []) minutes hours two first second =
+    ap (λ (state : RecordTierHeld). state ∷ other ∷ []) (sym first) ∙ ap (λ (state : RecordTierHeld). minutes ∷ state ∷ []) (sym second)
+two-are (one ∷ other ∷ third ∷ others) minutes hours two first second = absurd (omega (arith, two))
 
 module _ (body : Body) (held : TiersHeld) (minutes hours : RecordTierHeld) (both : held.records ≡ minutes ∷ hours ∷ []) where
   pub both-ready : AreReadyTiers body (map records_held held.records) → IsReadyTier body body.minutes.extents (records_held minutes) × IsReadyTier body body.hours.extents (records_held hours)

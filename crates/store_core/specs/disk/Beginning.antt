@@ -2,6 +2,7 @@
 use Rattle.std.specs.Prelude.{◌≡◌, ℕ, List, []}
 use Rattle.host_model.specs.declared.file.File.{File}
 use Rattle.host_model.specs.Past.{Event, of, told, IsOther}
+use Rattle.journal_core.specs.declared.journal.TheConstants.{EMPTY_SIZE}
 use Rattle.journal_core.specs.Form.{StandsFor}
 use Rattle.journal_core.specs.Journal.{JournalState}
 use Rattle.checkpoint.specs.Files.{checkpoint_in, new_slot}
@@ -9,7 +10,7 @@ use Rattle.store_core.specs.disk.Holds.{journal_file}
 
 -- the journal of a generation, with no record
 abbrev pub empty_journal : ℕ → JournalState
-empty_journal generation = record { file = journal_file generation; generation = generation; bytes = 17 }
+empty_journal generation = record { file = journal_file generation; generation = generation; bytes = EMPTY_SIZE }
 
 -- the disk has the checkpoint of this number with these bytes, and the journal of its generation is empty
 pub record Begins (number : ℕ) (bytes : List ℕ) (disk : File → List ℕ) : Type 0 where

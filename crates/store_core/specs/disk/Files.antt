@@ -26,7 +26,7 @@ pub record IsOpenOf (past : List Event) (files : FilesState) (contents : Content
 -- after this past the journal is open, and has some records
 pub record IsJournalOpen (past : List Event) (files : FilesState) : Type 0 where
   pub records : List (List ℕ)
-  pub open : IsOpen (of (journal_file files.number) past) files.journal records
+  pub is_open : IsOpen (of (journal_file files.number) past) files.journal records
 
 -- what adding a record requires of its host
 pub record IsReady (honest : Type 0) (past : List Event) (files : FilesState) : Type 0 where

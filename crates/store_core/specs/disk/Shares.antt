@@ -5,6 +5,8 @@ use Rattle.host_model.specs.declared.file.File.TheVariants.{CheckA, CheckB, Jour
 use Rattle.host_model.specs.Images.{greatest}
 use Rattle.host_model.specs.Past.{Event, of}
 use Rattle.extent_file.specs.Slot.{slot_size, slot_start}
+use Rattle.journal_core.specs.declared.journal.TheConstants.{EMPTY_SIZE}
+use Rattle.checkpoint.specs.declared.head.TheConstants.{HEAD}
 use Rattle.checkpoint.specs.Files.{slot_file}
 use Rattle.tier_settings.specs.declared.settings.Settings.{Settings}
 use Rattle.tier_settings.specs.declared.tier.Tier.{Tier}
@@ -23,8 +25,8 @@ IsWithin shares past = (file : File) → greatest (of file past) ≤ shares file
 
 -- the shares have room for the checkpoint of this number with these bytes, and for its empty journal
 pub record HasRoom (shares : File → ℕ) (number : ℕ) (bytes : List ℕ) : Type 0 where
-  pub journal : 17 ≤ shares (journal_file number)
-  pub checkpoint : 17 + length bytes ≤ shares (slot_file number)
+  pub journal : EMPTY_SIZE ≤ shares (journal_file number)
+  pub checkpoint : HEAD + length bytes ≤ shares (slot_file number)
 
 -- the slots of these extents end within so many bytes
 abbrev pub EndWithin : ℕ → ℕ → ℕ → List Written → Type 0
@@ -44,8 +46,8 @@ tier_share number tier = (tier.extents + 1) * slot_size number tier.items
 
 -- the share of each file, with these settings, where the side has at most so many bytes
 abbrev pub share : Settings → ℕ → File → ℕ
-share set side CheckA = 17 + body_limit set side
-share set side CheckB = 17 + body_limit set side
+share set side CheckA = HEAD + body_limit set side
+share set side CheckB = HEAD + body_limit set side
 share set side JournalA = 2 ^ 27
 share set side JournalB = 2 ^ 27
 share set side Tier0 = tier_share 0 (tier_with set 0)

@@ -50,12 +50,8 @@ pub fn next_body(
     let last = tiers.last();
     let settings = body.settings.copy(alloc)?;
     let records = tiers.kept_records();
-    let Some(of_minutes) = records.first() else {
-        unreachable!()
-    };
-    let Some(of_hours) = records.last() else {
-        unreachable!()
-    };
+    let of_minutes = &records[0];
+    let of_hours = &records[1];
     let (points, new_points) = next_points(alloc, moment, &body.points, tiers.kept_points())?;
     let (minutes, new_minutes) = next_records(alloc, 1, moment, last, &body.minutes, of_minutes)?;
     let (hours, new_hours) = next_records(alloc, 2, moment, last, &body.hours, of_hours)?;

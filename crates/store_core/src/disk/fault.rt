@@ -1,3 +1,10 @@
+ghost use Rattle.std.specs.Prelude.{◌≡◌};
+ghost use Rattle.store_core.specs.disk.Faults.{fault_of_body, fault_of_check, fault_of_extent, fault_of_journal};
+
+use checkpoint::CheckFault;
+use checkpoint_body::BodyFault;
+use extent_file::ExtentFault;
+use journal_core::JournalFault;
 use thiserror::Error;
 
 /// The part of a database that is the file of its checkpoint.
@@ -31,4 +38,52 @@ pub enum FilesFault {
     /// Memory ran out.
     #[error("out of memory")]
     Memory,
+}
+
+impl From<CheckFault> for FilesFault {
+    ghost from_gives = { λ fault given. given ≡ fault_of_check fault };
+
+    fn from(fault: CheckFault) -> FilesFault {
+        match fault {
+            CheckFault::DiskFault => FilesFault::DiskFault,
+            CheckFault::NoneOpen => FilesFault::NotADatabase,
+            CheckFault::BadSlot(_) => FilesFault::Damaged(FILE_PART),
+            CheckFault::Memory => FilesFault::Memory,
+        }
+    }
+}
+
+impl From<BodyFault> for FilesFault {
+    ghost from_gives = { λ fault given. given ≡ fault_of_body fault };
+
+    fn from(fault: BodyFault) -> FilesFault {
+        match fault {
+            BodyFault::BadBody => FilesFault::Damaged(BODY_PART),
+            BodyFault::Memory => FilesFault::Memory,
+        }
+    }
+}
+
+impl From<ExtentFault> for FilesFault {
+    ghost from_gives = { λ fault given. given ≡ fault_of_extent fault };
+
+    fn from(fault: ExtentFault) -> FilesFault {
+        match fault {
+            ExtentFault::DiskFault => FilesFault::DiskFault,
+            ExtentFault::BadExtent(_) => FilesFault::Damaged(EXTENT_PART),
+            ExtentFault::Memory => FilesFault::Memory,
+        }
+    }
+}
+
+impl From<JournalFault> for FilesFault {
+    ghost from_gives = { λ fault given. given ≡ fault_of_journal fault };
+
+    fn from(fault: JournalFault) -> FilesFault {
+        match fault {
+            JournalFault::DiskFault => FilesFault::DiskFault,
+            JournalFault::NotAJournal(_) => FilesFault::Damaged(JOURNAL_PART),
+            JournalFault::Memory => FilesFault::Memory,
+        }
+    }
 }

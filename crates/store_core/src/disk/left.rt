@@ -12,12 +12,13 @@ ghost use Rattle.extent_file.specs.Slot.{tier_of};
 ghost use Rattle.store_core.specs.Damaged.{IsDamagedIn};
 ghost use Rattle.store_core.specs.disk.Files.{IsReady};
 ghost use Rattle.store_core.specs.disk.Formed.{AllFormed, AreFormed, HasFiles, IsFormed};
+ghost use Rattle.store_core.specs.disk.Holds.{HasCheckpoint};
 ghost use Rattle.store_core.specs.disk.Opening.{IsOpenFault, OnlySyncs};
 ghost use Rattle.store_core.specs.disk.Reading.{HasSlot, IsExtentFault, IsPageFault};
 
 use crate::disk::fault::{EXTENT_PART, FilesFault};
 use crate::disk::files::Files;
-use crate::disk::opening::{load_checkpoint, open_journal, settle_tiers};
+use crate::disk::opening::{Checkpoint, load_checkpoint, open_journal, settle_tiers};
 use crate::disk::reading::{Kept, open_extent, read_record_page, read_slot_page};
 use crate::disk::slots::has_own_slots;
 use crate::disk::tier::items_of;
@@ -268,17 +269,65 @@ fn read_left<H: Host>(alloc: Global, host: &mut H, body: &Body) -> Result<Kept, 
         return Err(FilesFault::Damaged(EXTENT_PART));
     }
     let mut pool = PagePool::new(alloc);
-    let extents = body.points.extents.as_slice();
-    let points = left_points(alloc, host, &mut pool, items_of(body, 0), extents)?;
-    let extents = body.minutes.extents.as_slice();
-    let minutes = left_tier(alloc, host, &mut pool, File::Tier1, items_of(body, 1), extents)?;
-    let extents = body.hours.extents.as_slice();
-    let hours = left_tier(alloc, host, &mut pool, File::Tier2, items_of(body, 2), extents)?;
+    let points = left_points(
+        alloc,
+        host,
+        &mut pool,
+        items_of(body, 0),
+        body.points.extents.as_slice(),
+    )?;
+    let minutes = left_tier(
+        alloc,
+        host,
+        &mut pool,
+        File::Tier1,
+        items_of(body, 1),
+        body.minutes.extents.as_slice(),
+    )?;
+    let hours = left_tier(
+        alloc,
+        host,
+        &mut pool,
+        File::Tier2,
+        items_of(body, 2),
+        body.hours.extents.as_slice(),
+    )?;
     Ok(Kept {
         points,
         minutes,
         hours,
     })
+}
+
+/// What was read of a checkpoint, and what is left in the extents that it names.
+#[derive(Drop)]
+struct Loaded {
+    checkpoint: Checkpoint,
+    kept: Kept,
+}
+
+/// Loads the checkpoint that counts, and reads what is left in the extents that it names.
+fn load_left<H: Host>(alloc: Global, host: &mut H) -> Result<Loaded, FilesFault>
+    ensures loaded { IfOk result (λ found. H.honest
+        → HasCheckpoint found.checkpoint.number found.checkpoint.body
+        (reads_as (H.seen host.old).past)) }
+    ensures spelt { IfOk result (λ found. HasSpelling found.checkpoint.body) }
+    ensures formed { IfOk result (λ found. H.honest
+        → AreFormed found.checkpoint.body (reads_as (H.seen host.old).past)) }
+    ensures none { IsErrOf result FilesFault.NotADatabase → H.honest
+        → checkpoint_in (reads_as (H.seen host.old).past) ≡ None }
+    ensures damaged { (part : ℕ) → IsErrOf result (FilesFault.Damaged part) → H.honest
+        → IsDamagedIn part (reads_as (H.seen host.old).past) }
+    ensures faults { IfErr result IsOpenFault }
+    ensures syncs { H.honest → OnlySyncs (H.seen host.old).past (H.seen host.new).past }
+    ensures cause { HasCause (H.seen host.old).disk_faults (H.seen host.new).disk_faults
+        (IsErrOf result FilesFault.DiskFault) }
+    ensures output { (H.seen host.new).tell_faults ≡ (H.seen host.old).tell_faults }
+{
+    let checkpoint = load_checkpoint(alloc, host)?;
+    settle_tiers(host)?;
+    let kept = read_left(alloc, host, &checkpoint.body)?;
+    Ok(Loaded { checkpoint, kept })
 }
 
 /// Opens the files of a database whose disk is in form, and reads what is left in its extents. It
@@ -298,14 +347,12 @@ pub fn open_left<H: Host>(alloc: Global, host: &mut H) -> Result<Left, FilesFaul
         (IsErrOf result FilesFault.DiskFault) }
     ensures output { (H.seen host.new).tell_faults ≡ (H.seen host.old).tell_faults }
 {
-    let checkpoint = load_checkpoint(alloc, host)?;
-    settle_tiers(host)?;
-    let kept = read_left(alloc, host, &checkpoint.body)?;
-    let opened = open_journal(alloc, host, checkpoint.number)?;
+    let loaded = load_left(alloc, host)?;
+    let opened = open_journal(alloc, host, loaded.checkpoint.number)?;
     Ok(Left {
-        files: Files::new(checkpoint.number, opened.journal),
-        body: checkpoint.body,
-        kept,
+        files: Files::new(loaded.checkpoint.number, opened.journal),
+        body: loaded.checkpoint.body,
+        kept: loaded.kept,
         records: opened.records,
     })
 }

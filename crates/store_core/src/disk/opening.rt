@@ -17,14 +17,14 @@ ghost use Rattle.store_core.specs.disk.Opened.{contents_of};
 ghost use Rattle.store_core.specs.disk.Opening.{AreFixed, IsOpenFault, OnlySyncs, StaySynced};
 
 use crate::disk::beginning::journal_file_of;
-use crate::disk::fault::{BODY_PART, FILE_PART, FilesFault, JOURNAL_PART};
+use crate::disk::fault::FilesFault;
 use crate::disk::files::Files;
 use crate::disk::reading::{Kept, read_kept};
-use checkpoint::{CheckFault, load};
-use checkpoint_body::{Body, BodyFault, RecordPageList, SlotPageList, read_body};
+use checkpoint::load;
+use checkpoint_body::{Body, RecordPageList, SlotPageList, read_body};
 use fixed_num::ListOf;
 use host_model::{File, Host};
-use journal_core::{Journal, JournalFault, RecordList};
+use journal_core::{Journal, RecordList};
 use std::alloc::Global;
 
 /// A database that was opened: its files, and what they hold.
@@ -52,7 +52,10 @@ pub(crate) struct Checkpoint {
 }
 
 /// Loads the checkpoint that counts.
-pub(crate) fn load_checkpoint<H: Host>(alloc: Global, host: &mut H) -> Result<Checkpoint, FilesFault>
+pub(crate) fn load_checkpoint<H: Host>(
+    alloc: Global,
+    host: &mut H,
+) -> Result<Checkpoint, FilesFault>
     ensures loaded { IfOk result (λ found. H.honest
         → HasCheckpoint found.number found.body (reads_as (H.seen host.old).past)) }
     ensures spelt { IfOk result (λ found. HasSpelling found.body) }
@@ -62,24 +65,16 @@ pub(crate) fn load_checkpoint<H: Host>(alloc: Global, host: &mut H) -> Result<Ch
         → checkpoint_in (reads_as (H.seen host.old).past) ≡ None }
     ensures damaged { (part : ℕ) → IsErrOf result (FilesFault.Damaged part) → H.honest
         → IsDamagedAt part (reads_as (H.seen host.old).past) }
+    ensures early { (part : ℕ) → IsErrOf result (FilesFault.Damaged part) → part ≤ 2 }
     ensures faults { IfErr result IsOpenFault }
     ensures syncs { H.honest → OnlySyncs (H.seen host.old).past (H.seen host.new).past }
     ensures cause { HasCause (H.seen host.old).disk_faults (H.seen host.new).disk_faults
         (IsErrOf result FilesFault.DiskFault) }
     ensures output { (H.seen host.new).tell_faults ≡ (H.seen host.old).tell_faults }
 {
-    let (number, bytes) = match load(alloc, host) {
-        Ok(found) => found,
-        Err(CheckFault::DiskFault) => return Err(FilesFault::DiskFault),
-        Err(CheckFault::NoneOpen) => return Err(FilesFault::NotADatabase),
-        Err(CheckFault::BadSlot(_)) => return Err(FilesFault::Damaged(FILE_PART)),
-        Err(CheckFault::Memory) => return Err(FilesFault::Memory),
-    };
-    match read_body(alloc, bytes.as_slice()) {
-        Ok(body) => Ok(Checkpoint { number, body }),
-        Err(BodyFault::BadBody) => Err(FilesFault::Damaged(BODY_PART)),
-        Err(BodyFault::Memory) => Err(FilesFault::Memory),
-    }
+    let (number, bytes) = load(alloc, host)?;
+    let body = read_body(alloc, bytes.as_slice())?;
+    Ok(Checkpoint { number, body })
 }
 
 /// Makes a file of the database hold what it reads as.
@@ -150,13 +145,8 @@ pub(crate) fn open_journal<H: Host>(
 {
     let file = journal_file_of(number);
     settle(host, file)?;
-    match Journal::open(alloc, host, file, number) {
-        Ok((journal, records)) => Ok(OpenJournal { journal, records }),
-        Err(JournalFault::NotAJournal(_)) => Err(FilesFault::Damaged(JOURNAL_PART)),
-        Err(JournalFault::DiskFault) => Err(FilesFault::DiskFault),
-        Err(JournalFault::Memory) => Err(FilesFault::Memory),
-        Err(JournalFault::TooLong) => unreachable!(),
-    }
+    let (journal, records) = Journal::open(alloc, host, file, number)?;
+    Ok(OpenJournal { journal, records })
 }
 
 /// What was read of a checkpoint and of the extents that it names.

@@ -72,10 +72,7 @@ fn raw_page(pool: &mut PagePool) -> Result<RawPage, FilesFault>
     if pool.reserve(1).is_err() {
         return Err(FilesFault::Memory);
     }
-    match pool.take() {
-        Some(page) => Ok(page),
-        None => unreachable!(),
-    }
+    Ok(pool.take().unwrap())
 }
 
 /// The bytes of the items of a page of an extent.

@@ -13,7 +13,7 @@ ghost use Rattle.store_core.specs.disk.Standing.{AllStand, AreBeside, StandsIn};
 
 use crate::disk::fault::FilesFault;
 use crate::disk::segment::Segment;
-use extent_file::{ExtentFault, write_extent};
+use extent_file::write_extent;
 use host_model::{File, Host};
 use std::alloc::Global;
 
@@ -50,12 +50,8 @@ fn write_segment<H: Host, S: Segment>(
     ensures output { (H.seen host.new).tell_faults ≡ (H.seen host.old).tell_faults }
 {
     let pages = segment.pages(alloc)?;
-    match write_extent(alloc, host, file, items, segment.slot(), &pages) {
-        Ok(_size) => Ok(()),
-        Err(ExtentFault::Memory) => Err(FilesFault::Memory),
-        Err(ExtentFault::DiskFault) => Err(FilesFault::DiskFault),
-        Err(ExtentFault::BadExtent(_)) => unreachable!(),
-    }
+    write_extent(alloc, host, file, items, segment.slot(), &pages)?;
+    Ok(())
 }
 
 /// Writes segments into their slots of a tier's file, and syncs it. At every moment what stands in

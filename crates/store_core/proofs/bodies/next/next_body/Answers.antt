@@ -1,22 +1,21 @@
 use Rattle.std.proofs.Common.{◌≡◌, ℕ, ◌-◌, ◌^◌, ◌<◌, List, [], ◌∷◌, length, arith, ap, sym, refl, ◌∙◌, subst}
-use Rattle.std.specs.Option.{option_copied}
 use Rattle.beat_tiers.specs.declared.item.Stepped.{Stepped}
 use Rattle.beat_tiers.specs.Room.{records_held, tiers_held, RecordTierHeld, SegmentsHeld}
 use Rattle.beat_tiers.specs.Sound.{IsPointItem}
 use Rattle.store_core.specs.bodies.Next.{CanBeNamed, IsNextPointTier, IsNextRecordTier}
-use Rattle.store_core.proofs.BodyProofs.HeldLemmas.{both-ready, is-there, next-of, two-are, two-long}
+use Rattle.store_core.proofs.BodyProofs.HeldLemmas.{both-ready, next-of, two-are, two-long}
 use Rattle.store_core.proofs.BodyProofs.NextLemmas.{are-ready, is-made}
 use Rattle.store_core.proofs.bodies.next.next_body.Goals as goal
 
-pub unreachable-requires : goal.unreachable-requires
-unreachable-requires c =
+pub bounds-records-0 : goal.bounds-records-0
+bounds-records-0 c =
     let two : length c.kept_records-records.result.now ≡ 2 = ap (λ (records : List RecordTierHeld). length records) c.kept_records-records.ensures ∙ two-long c.args.body.now c.args.tiers.now.records (are-ready c.args.body.now c.requires.spelt c.requires.goes_on.0 c.requires.goes_on.1 (tiers_held c.args.tiers.now) c.requires.goes_on.2).records in
-    is-there c.kept_records-records.result.now 0 (omega (arith, two)) (sym c.first.ensures.value ∙ ap option_copied c.in_default.is)
+    omega (arith, two)
 
-pub unreachable-requires-in_default-last : goal.unreachable-requires-in_default-last
-unreachable-requires-in_default-last c =
+pub bounds-records-1 : goal.bounds-records-1
+bounds-records-1 c =
     let two : length c.kept_records-records.result.now ≡ 2 = ap (λ (records : List RecordTierHeld). length records) c.kept_records-records.ensures ∙ two-long c.args.body.now c.args.tiers.now.records (are-ready c.args.body.now c.requires.spelt c.requires.goes_on.0 c.requires.goes_on.1 (tiers_held c.args.tiers.now) c.requires.goes_on.2).records in
-    is-there c.kept_records-records.result.now (length c.kept_records-records.result.now - 1) (omega (arith, two)) (sym c.last.ensures.value ∙ ap option_copied c.in_default-last.is)
+    omega (arith, two)
 
 pub next_points-requires : goal.next_points-requires
 next_points-requires c =
@@ -26,48 +25,48 @@ next_points-requires c =
 pub next_records-requires-clause-named : goal.next_records-requires-clause-named
 next_records-requires-clause-named c =
     let two : length c.kept_records-records.result.now ≡ 2 = ap (λ (records : List RecordTierHeld). length records) c.kept_records-records.ensures ∙ two-long c.args.body.now c.args.tiers.now.records (are-ready c.args.body.now c.requires.spelt c.requires.goes_on.0 c.requires.goes_on.1 (tiers_held c.args.tiers.now) c.requires.goes_on.2).records in
-    let both : c.args.tiers.now.records ≡ c.in-Some.of_minutes.now ∷ c.in-Some-last.of_hours.now ∷ [] =
-    sym c.kept_records-records.ensures ∙ two-are c.kept_records-records.result.now c.in-Some.of_minutes.now c.in-Some-last.of_hours.now two
-    (sym c.first.ensures.value ∙ ap option_copied c.in-Some.is) (sym c.last.ensures.value ∙ ap option_copied c.in-Some-last.is) in
-    (both-ready c.args.body.now c.args.tiers.now c.in-Some.of_minutes.now c.in-Some-last.of_hours.now both (are-ready c.args.body.now c.requires.spelt c.requires.goes_on.0 c.requires.goes_on.1 (tiers_held c.args.tiers.now) c.requires.goes_on.2).records).0.named
+    let both : c.args.tiers.now.records ≡ c.index-records-0.result ∷ c.index-records-1.result ∷ [] =
+    sym c.kept_records-records.ensures ∙ two-are c.kept_records-records.result.now c.index-records-0.result c.index-records-1.result two
+    c.index-records-0.is c.index-records-1.is in
+    (both-ready c.args.body.now c.args.tiers.now c.index-records-0.result c.index-records-1.result both (are-ready c.args.body.now c.requires.spelt c.requires.goes_on.0 c.requires.goes_on.1 (tiers_held c.args.tiers.now) c.requires.goes_on.2).records).0.named
 
 pub next_records-requires-clause-width : goal.next_records-requires-clause-width
 next_records-requires-clause-width c =
     let two : length c.kept_records-records.result.now ≡ 2 = ap (λ (records : List RecordTierHeld). length records) c.kept_records-records.ensures ∙ two-long c.args.body.now c.args.tiers.now.records (are-ready c.args.body.now c.requires.spelt c.requires.goes_on.0 c.requires.goes_on.1 (tiers_held c.args.tiers.now) c.requires.goes_on.2).records in
-    let both : c.args.tiers.now.records ≡ c.in-Some.of_minutes.now ∷ c.in-Some-last.of_hours.now ∷ [] =
-    sym c.kept_records-records.ensures ∙ two-are c.kept_records-records.result.now c.in-Some.of_minutes.now c.in-Some-last.of_hours.now two
-    (sym c.first.ensures.value ∙ ap option_copied c.in-Some.is) (sym c.last.ensures.value ∙ ap option_copied c.in-Some-last.is) in
-    (both-ready c.args.body.now c.args.tiers.now c.in-Some.of_minutes.now c.in-Some-last.of_hours.now both (are-ready c.args.body.now c.requires.spelt c.requires.goes_on.0 c.requires.goes_on.1 (tiers_held c.args.tiers.now) c.requires.goes_on.2).records).0.width
+    let both : c.args.tiers.now.records ≡ c.index-records-0.result ∷ c.index-records-1.result ∷ [] =
+    sym c.kept_records-records.ensures ∙ two-are c.kept_records-records.result.now c.index-records-0.result c.index-records-1.result two
+    c.index-records-0.is c.index-records-1.is in
+    (both-ready c.args.body.now c.args.tiers.now c.index-records-0.result c.index-records-1.result both (are-ready c.args.body.now c.requires.spelt c.requires.goes_on.0 c.requires.goes_on.1 (tiers_held c.args.tiers.now) c.requires.goes_on.2).records).0.width
 
 pub next_records-requires-2-clause-named : goal.next_records-requires-2-clause-named
 next_records-requires-2-clause-named c =
     let two : length c.kept_records-records.result.now ≡ 2 = ap (λ (records : List RecordTierHeld). length records) c.kept_records-records.ensures ∙ two-long c.args.body.now c.args.tiers.now.records (are-ready c.args.body.now c.requires.spelt c.requires.goes_on.0 c.requires.goes_on.1 (tiers_held c.args.tiers.now) c.requires.goes_on.2).records in
-    let both : c.args.tiers.now.records ≡ c.in-Some.of_minutes.now ∷ c.in-Some-last.of_hours.now ∷ [] =
-    sym c.kept_records-records.ensures ∙ two-are c.kept_records-records.result.now c.in-Some.of_minutes.now c.in-Some-last.of_hours.now two
-    (sym c.first.ensures.value ∙ ap option_copied c.in-Some.is) (sym c.last.ensures.value ∙ ap option_copied c.in-Some-last.is) in
-    (both-ready c.args.body.now c.args.tiers.now c.in-Some.of_minutes.now c.in-Some-last.of_hours.now both (are-ready c.args.body.now c.requires.spelt c.requires.goes_on.0 c.requires.goes_on.1 (tiers_held c.args.tiers.now) c.requires.goes_on.2).records).1.named
+    let both : c.args.tiers.now.records ≡ c.index-records-0.result ∷ c.index-records-1.result ∷ [] =
+    sym c.kept_records-records.ensures ∙ two-are c.kept_records-records.result.now c.index-records-0.result c.index-records-1.result two
+    c.index-records-0.is c.index-records-1.is in
+    (both-ready c.args.body.now c.args.tiers.now c.index-records-0.result c.index-records-1.result both (are-ready c.args.body.now c.requires.spelt c.requires.goes_on.0 c.requires.goes_on.1 (tiers_held c.args.tiers.now) c.requires.goes_on.2).records).1.named
 
 pub next_records-requires-2-clause-width : goal.next_records-requires-2-clause-width
 next_records-requires-2-clause-width c =
     let two : length c.kept_records-records.result.now ≡ 2 = ap (λ (records : List RecordTierHeld). length records) c.kept_records-records.ensures ∙ two-long c.args.body.now c.args.tiers.now.records (are-ready c.args.body.now c.requires.spelt c.requires.goes_on.0 c.requires.goes_on.1 (tiers_held c.args.tiers.now) c.requires.goes_on.2).records in
-    let both : c.args.tiers.now.records ≡ c.in-Some.of_minutes.now ∷ c.in-Some-last.of_hours.now ∷ [] =
-    sym c.kept_records-records.ensures ∙ two-are c.kept_records-records.result.now c.in-Some.of_minutes.now c.in-Some-last.of_hours.now two
-    (sym c.first.ensures.value ∙ ap option_copied c.in-Some.is) (sym c.last.ensures.value ∙ ap option_copied c.in-Some-last.is) in
-    (both-ready c.args.body.now c.args.tiers.now c.in-Some.of_minutes.now c.in-Some-last.of_hours.now both (are-ready c.args.body.now c.requires.spelt c.requires.goes_on.0 c.requires.goes_on.1 (tiers_held c.args.tiers.now) c.requires.goes_on.2).records).1.width
+    let both : c.args.tiers.now.records ≡ c.index-records-0.result ∷ c.index-records-1.result ∷ [] =
+    sym c.kept_records-records.ensures ∙ two-are c.kept_records-records.result.now c.index-records-0.result c.index-records-1.result two
+    c.index-records-0.is c.index-records-1.is in
+    (both-ready c.args.body.now c.args.tiers.now c.index-records-0.result c.index-records-1.result both (are-ready c.args.body.now c.requires.spelt c.requires.goes_on.0 c.requires.goes_on.1 (tiers_held c.args.tiers.now) c.requires.goes_on.2).records).1.width
 
 pub returns-clause-is : goal.returns-clause-is
 returns-clause-is c =
     let two : length c.kept_records-records.result.now ≡ 2 = ap (λ (records : List RecordTierHeld). length records) c.kept_records-records.ensures ∙ two-long c.args.body.now c.args.tiers.now.records (are-ready c.args.body.now c.requires.spelt c.requires.goes_on.0 c.requires.goes_on.1 (tiers_held c.args.tiers.now) c.requires.goes_on.2).records in
-    let both : c.args.tiers.now.records ≡ c.in-Some.of_minutes.now ∷ c.in-Some-last.of_hours.now ∷ [] =
-    sym c.kept_records-records.ensures ∙ two-are c.kept_records-records.result.now c.in-Some.of_minutes.now c.in-Some-last.of_hours.now two
-    (sym c.first.ensures.value ∙ ap option_copied c.in-Some.is) (sym c.last.ensures.value ∙ ap option_copied c.in-Some-last.is) in
-    next-of c.args.body.now c.args.tiers.now c.in-Some.of_minutes.now c.in-Some-last.of_hours.now both c.args.count c.args.side
+    let both : c.args.tiers.now.records ≡ c.index-records-0.result ∷ c.index-records-1.result ∷ [] =
+    sym c.kept_records-records.ensures ∙ two-are c.kept_records-records.result.now c.index-records-0.result c.index-records-1.result two
+    c.index-records-0.is c.index-records-1.is in
+    next-of c.args.body.now c.args.tiers.now c.index-records-0.result c.index-records-1.result both c.args.count c.args.side
     (record { settings = c.in_ok-settings.settings; count = c.args.count; last = c.last-last.result; points = c.in_ok-points.points; minutes = c.in_ok-minutes.minutes; hours = c.in_ok-hours.hours; side = c.args.side })
     (record { points = c.in_ok-points.new_points; minutes = c.in_ok-minutes.new_minutes; hours = c.in_ok-hours.new_hours })
     c.in_ok-settings.ensures refl c.last-last.ensures refl
     (subst (λ (held : SegmentsHeld Stepped). IsNextPointTier c.args.body.now.last c.args.body.now.points held.kept c.in_ok-points.points c.in_ok-points.new_points) c.kept_points.ensures c.in_ok-points.ensures)
-    (subst (λ (last : ℕ). IsNextRecordTier 1 c.args.body.now.last last c.args.body.now.minutes (records_held c.in-Some.of_minutes.now) c.in_ok-minutes.minutes c.in_ok-minutes.new_minutes) c.last-last.ensures c.in_ok-minutes.ensures)
-    (subst (λ (last : ℕ). IsNextRecordTier 2 c.args.body.now.last last c.args.body.now.hours (records_held c.in-Some-last.of_hours.now) c.in_ok-hours.hours c.in_ok-hours.new_hours) c.last-last.ensures c.in_ok-hours.ensures)
+    (subst (λ (last : ℕ). IsNextRecordTier 1 c.args.body.now.last last c.args.body.now.minutes (records_held c.index-records-0.result) c.in_ok-minutes.minutes c.in_ok-minutes.new_minutes) c.last-last.ensures c.in_ok-minutes.ensures)
+    (subst (λ (last : ℕ). IsNextRecordTier 2 c.args.body.now.last last c.args.body.now.hours (records_held c.index-records-1.result) c.in_ok-hours.hours c.in_ok-hours.new_hours) c.last-last.ensures c.in_ok-hours.ensures)
 
 pub returns-clause-spelt : goal.returns-clause-spelt
 returns-clause-spelt c =

@@ -5,5 +5,5 @@ use Rattle.store_core.proofs.disk.items.records_in.Goals as goal
 
 pub loop-place-preserved : goal.loop-place-preserved
 loop-place-preserved c =
-    taken_more c.args.page.now.items c.loop-place.records c.push.new.self c.loop-place.place c.record_at.result c.loop-place.invariant c.record_at.ensures
+    taken_more c.args.page.now.items c.loop-place.records c.push.new.self c.loop-place.place c.record.result c.loop-place.invariant c.record.ensures
     (ok_part c.push.result (sym c.if-is_err.ensures.value) c.push.ensures.ok)

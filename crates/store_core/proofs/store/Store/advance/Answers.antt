@@ -1,5 +1,6 @@
 use Rattle.std.proofs.Common.{◌≡◌, ◌+◌, None, true, sym, ap, subst}
 use Rattle.std.proofs.lemmas.Bool.{and_parts}
+use Rattle.std.proofs.lemmas.Result.{err_from_is_err_and}
 use Rattle.host_model.specs.Moments.{begins, Throughout}
 use Rattle.store_core.specs.disk.Shares.{share, IsWithin}
 use Rattle.tier_settings.specs.declared.settings.Settings.{Settings}
@@ -20,8 +21,8 @@ returns-in_default-clause-any_moment g c h stored is_of =
 pub returns-in_default-clause-bound : goal.returns-in_default-clause-bound
 returns-in_default-clause-bound g c most short h within = begins within
 
-pub returns-in-Ok-checkpoint-clause-any_moment : goal.returns-in-Ok-checkpoint-clause-any_moment
-returns-in-Ok-checkpoint-clause-any_moment g c h stored is_of =
+pub returns-clause-any_moment : goal.returns-clause-any_moment
+returns-clause-any_moment g c h stored is_of =
     let old = (g.H.Host.seen c.args.host.now).past in
     let new = (g.H.Host.seen c.checkpoint.new.host).past in
     let was = subst (λ (s : StoreState). IsStoreOf old s stored) (sym c.self.view_is) is_of in
@@ -31,8 +32,8 @@ returns-in-Ok-checkpoint-clause-any_moment g c h stored is_of =
     (record { is = c.in-Ok.ensures.is; spelt = c.in-Ok.ensures.spelt; follows = c.in-Ok.ensures.follows; tiers = c.in-Ok.ensures.tiers; counted = c.in-Ok.ensures.counted })
     new (c.checkpoint.ensures.any_moment h)
 
-pub returns-in-Ok-checkpoint-clause-advanced : goal.returns-in-Ok-checkpoint-clause-advanced
-returns-in-Ok-checkpoint-clause-advanced g c h stored is_of =
+pub returns-clause-advanced : goal.returns-clause-advanced
+returns-clause-advanced g c h stored is_of =
     let old = (g.H.Host.seen c.args.host.now).past in
     let new = (g.H.Host.seen c.checkpoint.new.host).past in
     let was = subst (λ (s : StoreState). IsStoreOf old s stored) (sym c.self.view_is) is_of in
@@ -41,10 +42,10 @@ returns-in-Ok-checkpoint-clause-advanced g c h stored is_of =
     let replayed = subst (λ (s : StoreState). IsReplayed s) (sym c.self.view_is) c.requires.replayed in
     advance-store old _ stored was numbered c.args.side c.in-Ok.body c.in-Ok.sealed
     (record { is = c.in-Ok.ensures.is; spelt = c.in-Ok.ensures.spelt; follows = c.in-Ok.ensures.follows; tiers = c.in-Ok.ensures.tiers; counted = c.in-Ok.ensures.counted })
-    new c.checkpoint.new.self replayed (c.in-Ok-checkpoint.ensures.done h)
+    new c.checkpoint.new.self replayed (c.in_ok-checkpoint.ensures.done h)
 
-pub returns-in-Ok-checkpoint-clause-ready : goal.returns-in-Ok-checkpoint-clause-ready
-returns-in-Ok-checkpoint-clause-ready g c =
+pub returns-clause-ready : goal.returns-clause-ready
+returns-clause-ready g c =
     let old = (g.H.Host.seen c.args.host.now).past in
     let new = (g.H.Host.seen c.checkpoint.new.host).past in
     let ready = subst (IsReady g.H.Host.honest old) (sym c.self.view_is) c.requires.ready in
@@ -54,10 +55,10 @@ returns-in-Ok-checkpoint-clause-ready g c =
     let going = subst (λ (s : StoreState). s.fault ≡ None) (sym c.self.view_is) c.requires.going in
     advance-ready g.H.Host.honest old new _ c.args.side c.in-Ok.body c.in-Ok.sealed c.checkpoint.new.self ready goes replayed going
     (record { is = c.in-Ok.ensures.is; spelt = c.in-Ok.ensures.spelt; follows = c.in-Ok.ensures.follows; tiers = c.in-Ok.ensures.tiers; counted = c.in-Ok.ensures.counted })
-    c.in-Ok-checkpoint.ensures.files c.in-Ok-checkpoint.ensures.done
+    c.in_ok-checkpoint.ensures.files c.in_ok-checkpoint.ensures.done
 
-pub returns-in-Ok-checkpoint-clause-bound : goal.returns-in-Ok-checkpoint-clause-bound
-returns-in-Ok-checkpoint-clause-bound g c most short h within =
+pub returns-clause-bound : goal.returns-clause-bound
+returns-clause-bound g c most short h within =
     let old = (g.H.Host.seen c.args.host.now).past in
     let new = (g.H.Host.seen c.checkpoint.new.host).past in
     let same : c.self.inside.body.settings ≡ c.args.self.now.body.settings = ap (λ (s : StoreState). s.body.settings) c.self.view_is in
@@ -66,8 +67,8 @@ returns-in-Ok-checkpoint-clause-bound g c most short h within =
     c.in-Ok.ensures.own_slots short (λ shares room slots. c.checkpoint.ensures.bound shares room slots h))
     within
 
-pub returns-in-Err-clause-any_moment : goal.returns-in-Err-clause-any_moment
-returns-in-Err-clause-any_moment g c h stored is_of =
+pub returns-in_err-checkpoint-clause-any_moment : goal.returns-in_err-checkpoint-clause-any_moment
+returns-in_err-checkpoint-clause-any_moment g c h stored is_of =
     let old = (g.H.Host.seen c.args.host.now).past in
     let new = (g.H.Host.seen c.checkpoint.new.host).past in
     let was = subst (λ (s : StoreState). IsStoreOf old s stored) (sym c.self.view_is) is_of in
@@ -77,8 +78,8 @@ returns-in-Err-clause-any_moment g c h stored is_of =
     (record { is = c.in-Ok.ensures.is; spelt = c.in-Ok.ensures.spelt; follows = c.in-Ok.ensures.follows; tiers = c.in-Ok.ensures.tiers; counted = c.in-Ok.ensures.counted })
     new (c.checkpoint.ensures.any_moment h)
 
-pub returns-in-Err-clause-bound : goal.returns-in-Err-clause-bound
-returns-in-Err-clause-bound g c most short h within =
+pub returns-in_err-checkpoint-clause-bound : goal.returns-in_err-checkpoint-clause-bound
+returns-in_err-checkpoint-clause-bound g c most short h within =
     let old = (g.H.Host.seen c.args.host.now).past in
     let new = (g.H.Host.seen c.checkpoint.new.host).past in
     let same : c.self.inside.body.settings ≡ c.args.self.now.body.settings = ap (λ (s : StoreState). s.body.settings) c.self.view_is in
@@ -87,5 +88,7 @@ returns-in-Err-clause-bound g c most short h within =
     c.in-Ok.ensures.own_slots short (λ shares room slots. c.checkpoint.ensures.bound shares room slots h))
     within
 
-pub returns-in-Err-clause-cause : goal.returns-in-Err-clause-cause
-returns-in-Err-clause-cause g c = cause-of-files _ _ c.in-Err.fault c.of_files.result c.of_files.ensures c.in-Err.ensures.cause
+pub returns-in_err-checkpoint-clause-cause : goal.returns-in_err-checkpoint-clause-cause
+returns-in_err-checkpoint-clause-cause g c =
+    let p = err_from_is_err_and c.from_residual.result c.from_residual.ensures.1 in
+    rw p.1 (cause-of-files _ _ c.in_err-checkpoint.field-0.0 p.0 p.2 c.in_err-checkpoint.ensures.cause)
