@@ -1,6 +1,6 @@
 -- Which disks have the form of a database: none with a damaged part, and one part is damaged at most.
 use Rattle.std.proofs.Common.{◌≡◌, ℕ, zero, suc, List, map, Some, None, refl, sym, ap, ◌∙◌, subst}
-use Rattle.std.proofs.lemmas.Option.{none-some}
+use Rattle.std.proofs.lemmas.Option.{none-some, same_Some}
 use Rattle.host_model.specs.declared.file.File.{File}
 use Rattle.host_model.specs.declared.file.File.TheVariants.{Tier0, Tier1, Tier2}
 use Rattle.journal_core.specs.Form.{StandsFor}
@@ -90,6 +90,18 @@ form-undamaged body beats disk form (suc (suc (suc (suc zero)))) damaged =
     damaged.unread form.records beats (subst (λ (n : ℕ). StandsFor n (disk (journal_file n)) form.records) number form.files.journal)
     (subst (λ (b : Body). beats_from b.last form.records ≡ Some beats) same form.read)
 form-undamaged body beats disk form (suc (suc (suc (suc (suc part))))) damaged = damaged
+
+-- ---- a disk has one form at most
+
+pub one-form : (body other : Body) (beats others : List Beat) (disk : File → List ℕ) → HasForm body beats disk → HasForm other others disk → (body ≡ other) × (beats ≡ others)
+one-form body other beats others disk first second =
+    let number = one_number first.number second.number body other disk first.files.checkpoint second.files.checkpoint in
+    let same = one_body first.number second.number body other disk first.files.checkpoint second.files.checkpoint in
+    let journal = subst (λ (n : ℕ). StandsFor n (disk (journal_file n)) first.records) number first.files.journal in
+    let records = records_once second.number (disk (journal_file second.number)) first.records second.records journal second.files.journal in
+    let read : beats_from other.last second.records ≡ Some beats =
+    ap (λ (l : List (List ℕ)). beats_from other.last l) (sym records) ∙ ap (λ (b : Body). beats_from b.last first.records) (sym same) ∙ first.read in
+    (same, same_Some beats others (sym read ∙ second.read))
 
 -- ---- where the records are no beats, the journal is damaged
 
