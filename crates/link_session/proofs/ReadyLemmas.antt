@@ -24,7 +24,7 @@ open-elsewhere old new files contents same opened = record {
 journal-elsewhere : (old new : List Event) (files : FilesState) → ((file : File) → of file new ≡ of file old) → IsJournalOpen old files → IsJournalOpen new files
 journal-elsewhere old new files same was = record {
   records = was.records;
-  «open» = subst (λ (changes : List Change). IsOpen changes files.journal was.records) (sym (same (journal_file files.number))) was.«open»;
+  is_open = subst (λ (changes : List Change). IsOpen changes files.journal was.records) (sym (same (journal_file files.number))) was.is_open;
 }
 
 store-after : (honest : Type 0) (old new : List Event) (store : StoreState) → (honest → (file : File) → of file new ≡ of file old)
