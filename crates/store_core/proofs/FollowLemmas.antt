@@ -22,7 +22,10 @@ use Rattle.store_core.specs.disk.Kept.{HasPagesOfEach}
 use Rattle.store_core.specs.disk.Shares.{share}
 use Rattle.store_core.specs.bodies.Tiers.{AreTiersOfBody}
 use Rattle.store_core.specs.declared.beats.beat.Beat.{Beat}
+use Rattle.store_core.specs.declared.fault.StoreFault.{StoreFault}
 use Rattle.store_core.specs.declared.fault.Why.{Why}
+use Rattle.store_core.specs.declared.fault.Why.TheVariants as why
+use Rattle.store_core.specs.Faults.{cause_of, IsStepFault}
 use Rattle.store_core.specs.beats.Beats.{beat_bytes, InForm}
 use Rattle.store_core.specs.beats.Records.{is_later, last_after, with_all, AreNext}
 use Rattle.store_core.specs.Counts.{counted, raised}
@@ -152,7 +155,7 @@ append_moments old new store bytes stored beat is_of spelt may moments =
 counted-more : (base n : ℕ) → raised (counted (base + n)) ≡ counted (base + suc n)
 counted-more base n = omega arith
 
-count-more : (stored : Stored) (beat : Beat) (count : ℕ) → count ≡ count_of stored → raised count ≡ count_of (stored_with stored beat)
+pub count-more : (stored : Stored) (beat : Beat) (count : ℕ) → count ≡ count_of stored → raised count ≡ count_of (stored_with stored beat)
 count-more stored beat count same = ap raised same ∙ counted-more stored.base.count (length stored.after)
 
 -- the store after the beat was added
@@ -318,3 +321,20 @@ ready_refused honest old new store cause ready = record {
     | inr left ↦ inr (record { broken = left.broken; tiers = left.tiers; waiting = left.waiting; opened = λ none h. absurd cc })
   ];
 }
+
+-- nor where it was not, and nothing but its fault has changed
+pub ready_left : (honest : Type 0) (past : List Event) (store : StoreState) (fault : Option Why) → store.fault ≡ None → IsReady honest past store → IsReady honest past (record store { fault = fault })
+ready_left honest past store None going ready = subst (λ (f : Option Why). IsReady honest past (record store { fault = f })) going ready
+ready_left honest past store (Some cause) going ready = ready_refused honest past past store cause ready
+
+-- a step that failed leaves its cause
+pub step_refused : (honest : Type 0) (old new : List Event) (store after : StoreState) (fault : StoreFault) (cause : Option Why) → IsStepFault fault → after ≡ store → cause ≡ cause_of fault
+    → IsReady honest old store → IsReady honest new (record after { fault = cause })
+step_refused honest old new store after fault cause (inl is) same from ready =
+    let some : cause ≡ Some why.Disk = from ∙ ap cause_of is in
+    subst (λ (s : StoreState). IsReady honest new (record s { fault = cause })) (sym same)
+    (subst (λ (f : Option Why). IsReady honest new (record store { fault = f })) (sym some) (ready_refused honest old new store why.Disk ready))
+step_refused honest old new store after fault cause (inr is) same from ready =
+    let some : cause ≡ Some why.Memory = from ∙ ap cause_of is in
+    subst (λ (s : StoreState). IsReady honest new (record s { fault = cause })) (sym same)
+    (subst (λ (f : Option Why). IsReady honest new (record store { fault = f })) (sym some) (ready_refused honest old new store why.Memory ready))

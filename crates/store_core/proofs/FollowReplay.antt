@@ -3,7 +3,7 @@ use Rattle.std.proofs.Common.{◌≡◌, ◌⊎◌, inl, inr, refl, ℕ, Bool, t
 use Rattle.std.proofs.lemmas.Bool.{and_parts, false≢true}
 use Rattle.host_model.specs.Past.{Event}
 use Rattle.beat_tiers.specs.Sound.{AreSound}
-use Rattle.beat_tiers.specs.State.{TiersState}
+use Rattle.beat_tiers.specs.State.{TiersState, after_beat}
 use Rattle.checkpoint_body.specs.declared.body.Body.{Body}
 use Rattle.checkpoint_body.specs.Body.{HasSpelling}
 use Rattle.store_core.specs.disk.Contents.{KeptPages}
@@ -12,12 +12,13 @@ use Rattle.store_core.specs.disk.Kept.{HasPagesOfEach}
 use Rattle.store_core.specs.bodies.Tiers.{AreTiersOfBody}
 use Rattle.store_core.specs.declared.beats.beat.Beat.{Beat}
 use Rattle.store_core.specs.beats.Records.{last_after, with_all, AreNext, TakesFirst}
+use Rattle.store_core.specs.Counts.{raised}
 use Rattle.store_core.specs.Store.{tiers_after}
 use Rattle.store_core.specs.Stands.{records_of}
-use Rattle.store_core.specs.Store.{can_advance, count_after, has_none, stays_whole, IsLeft, IsReady, IsSound, IsStoreAt, IsWhole, StoreState}
-use Rattle.store_core.specs.Stored.{Stored, has_sealed, is_numbered, stored_after, stored_with_all, tiers_of, HaveFollowed, MayFollow}
+use Rattle.store_core.specs.Store.{can_advance, count_after, has_none, stays_whole, IsLeft, IsReady, IsSound, IsStoreAt, IsWhole, Replays, StoreState}
+use Rattle.store_core.specs.Stored.{Stored, has_sealed, is_numbered, stored_after, stored_with, stored_with_all, tiers_of, HaveFollowed, MayFollow}
 use Rattle.store_core.proofs.AdvanceLemmas.{sound-tiers}
-use Rattle.store_core.proofs.FollowLemmas.{journal-open, none_next, sealed_same, sound_more, IsUnsealed}
+use Rattle.store_core.proofs.FollowLemmas.{count-more, journal-open, none_next, sealed_same, sound_more, IsUnsealed}
 use Rattle.store_core.proofs.NextLemmas.{sound-one}
 use Rattle.store_core.proofs.RecordLemmas.{last-after, prefix-followed}
 
@@ -100,6 +101,48 @@ whole-after : (stored : Stored) (next : Option Beat) (waiting rest : List Beat) 
     → (stored_with_all stored waiting).after ≡ (stored_with_all (stored_after next stored) rest).after
 whole-after stored None waiting rest takes = ap (with_all stored.after) (takes.0 ∙ sym takes.1)
 whole-after stored (Some beat) waiting rest takes = ap (with_all stored.after) takes
+
+-- ---- the next beat was applied
+
+module _ (past : List Event) (store after : StoreState) (stored : Stored) (same_files : after.files ≡ store.files) (same_body : after.body ≡ store.body)
+    (same_fault : after.fault ≡ store.fault) (stays : after.whole ≡ true) where
+  replays_none : IsStoreAt past store stored [] → after.waiting ≡ [] → after.tiers ≡ store.tiers → after.count ≡ store.count → IsStoreAt past after stored []
+  replays_none is_at waiting tiers count = record {
+    contents = is_at.contents;
+    opened = subst (λ (f : FilesState). IsOpenOf past f is_at.contents) (sym same_files) is_at.opened;
+    has = is_at.has;
+    body = same_body ∙ is_at.body;
+    waiting = waiting;
+    count = count ∙ is_at.count;
+    tiers = tiers ∙ is_at.tiers;
+    going = same_fault ∙ is_at.going;
+    whole = stays;
+  }
+
+  replays_next : (beat : Beat) (rest : List Beat) → IsStoreAt past store stored (beat ∷ rest) → after.waiting ≡ rest → after.tiers ≡ after_beat beat.moment beat.points store.tiers
+      → after.count ≡ raised store.count → IsStoreAt past after (stored_with stored beat) rest
+  replays_next beat rest is_at waiting tiers count = record {
+    contents = is_at.contents;
+    opened = subst (λ (f : FilesState). IsOpenOf past f is_at.contents) (sym same_files) is_at.opened;
+    has = is_at.has;
+    body = same_body ∙ is_at.body;
+    waiting = waiting;
+    count = count ∙ count-more stored beat store.count is_at.count;
+    tiers = tiers ∙ ap (λ (t : TiersState). after_beat beat.moment beat.points t) is_at.tiers;
+    going = same_fault ∙ is_at.going;
+    whole = stays;
+  }
+
+  pub replays : (rest : List Beat) (next : Option Beat) → IsStoreAt past store stored rest → TakesFirst store.waiting next after.waiting
+      → after.tiers ≡ tiers_after next store.tiers → after.count ≡ count_after next store.count → Replays past after stored rest next
+  replays [] None is_at takes tiers count = replays_none is_at takes.1 tiers count
+  replays [] (Some beat) is_at takes tiers count = absurd (let e : [] ≡ beat ∷ after.waiting = sym is_at.waiting ∙ takes in cc)
+  replays (first ∷ rest) None is_at takes tiers count = absurd (let e : first ∷ rest ≡ [] = sym is_at.waiting ∙ takes.0 in cc)
+  replays (first ∷ rest) (Some beat) is_at takes tiers count =
+      let same : beat ∷ after.waiting ≡ first ∷ rest = sym takes ∙ is_at.waiting in
+      let one : beat ≡ first = cc in
+      let others : after.waiting ≡ rest = cc in
+      (one, replays_next beat rest (subst (λ (b : Beat). IsStoreAt past store stored (b ∷ rest)) (sym one) is_at) others tiers count)
 
 -- ---- and as ready, where nothing happened to its host
 

@@ -8,7 +8,7 @@ ghost use Rattle.store_core.specs.Faults.{fault_after, Reopens};
 ghost use Rattle.store_core.specs.beats.Records.{TakesFirst};
 ghost use Rattle.store_core.specs.Store.{tiers_after};
 ghost use Rattle.store_core.specs.Faults.{IsReplayFault};
-ghost use Rattle.store_core.specs.Store.{count_after, stays_whole, IsReady, IsStoreAt, Replays};
+ghost use Rattle.store_core.specs.Store.{count_after, stays_whole, IsStoreAt, Replays};
 ghost use Rattle.store_core.specs.Stored.{Stored as AStored};
 
 use crate::beats::{Beat, Waiting};
@@ -46,8 +46,6 @@ impl Store {
         ensures tiers { IfOk result (λ next. self.new.tiers ≡ tiers_after next self.old.tiers) }
         ensures count { IfOk result (λ next. self.new.count ≡ count_after next self.old.count) }
         ensures whole { OnOk result (self.new.whole ≡ stays_whole self.old) }
-        ensures ready { (honest : Type 0) (past : List Event) → IsReady honest past self.old
-            → IsReady honest past self.new }
         ensures files { self.new.files ≡ self.old.files }
         ensures body { self.new.body ≡ self.old.body }
 

@@ -1,55 +1,83 @@
--- What is left of a body and its pages is that of sound tiers.
-use Rattle.std.proofs.Common.{◌≡◌, ℕ, ◌+◌, ◌/◌, ◌≤◌, true, nat_le, nat_lt, List, [], ◌∷◌, ◌++◌, flat_map, length, None, arith, ap, refl, ◌∙◌}
+-- The tiers of what is left of a body and its pages are sound.
+use Rattle.std.proofs.Common.{◌≡◌, ℕ, ◌+◌, true, List, [], ◌∷◌, get_or, Some, ap, sym, refl, ◌∙◌, subst}
 use Rattle.std.specs.List.{AllByRecursion}
-use Rattle.std.proofs.lemmas.Bool.{and_from, eq-eqb, le-leb, lt-ltb}
-use Rattle.list_lemmas.proofs.Every.{all-append}
-use Rattle.beat_tiers.specs.declared.item.Item.{Item}
+use Rattle.std.proofs.lemmas.Bool.{and_from}
+use Rattle.std.proofs.lemmas.Option.{cond_some}
 use Rattle.beat_tiers.specs.declared.item.Stepped.{Stepped}
 use Rattle.beat_tiers.specs.declared.parts.KeptItems.{KeptItems}
 use Rattle.beat_tiers.specs.declared.parts.KeptRecords.{KeptRecords}
-use Rattle.beat_tiers.specs.declared.parts.Segment.{Segment}
-use Rattle.beat_tiers.specs.Parts.{are_in_form, are_kept, are_open, are_placed, are_sealed, is_record_tier}
-use Rattle.beat_tiers.specs.Searching.{items_in}
+use Rattle.beat_tiers.specs.Parts.{are_in_form, are_kept, is_record_tier, restored}
 use Rattle.beat_tiers.specs.Segments.{items_of}
-use Rattle.beat_tiers.proofs.Halves.{all_left}
-use Rattle.beat_tiers.proofs.SoundTier.{all-right}
+use Rattle.beat_tiers.specs.Sound.{AreSound, IsPointItem, IsRecordOfSeries}
+use Rattle.beat_tiers.specs.State.{TiersState}
+use Rattle.beat_tiers.specs.Tiers.{IsTier}
+use Rattle.checkpoint_body.specs.declared.body.Body.{Body}
+use Rattle.checkpoint_body.specs.Body.{HasSpelling}
 use Rattle.tier_settings.specs.declared.tier.Tier.{Tier}
+use Rattle.tier_settings.specs.Limits.{HasWidths}
+use Rattle.tier_settings.specs.Settings.{no_tier}
+use Rattle.store_core.specs.disk.Contents.{no_pages}
+use Rattle.store_core.proofs.BodyProofs.WholeLemmas.{first-tier, other-tiers, rest_of}
 
-module _ {T : Type 0} where
-  -- what holds of the items of segments holds of those with a segment more
-  pub each-more : (P : Item T → Type 0) (segments : List (Segment T)) (one : Segment T) → AllByRecursion P (items_in segments) → AllByRecursion P one.items
-      → AllByRecursion P (items_in (segments ++ one ∷ []))
-  each-more P [] one all here = all-append P one.items [] here tt
-  each-more P (segment ∷ segments) one all here =
-      all-append P segment.items (items_in (segments ++ one ∷ [])) (all_left P segment.items (items_in segments) all)
-      (each-more P segments one (all-right P segment.items (items_in segments) all) here)
+abbrev pub tier_at : List Tier → ℕ → Tier
+tier_at tiers place = get_or tiers place no_tier
 
-  module _ (kept : KeptItems T) (sealed : kept.sealed ≡ []) (unsealed : kept.unsealed ≡ []) where
-    none-there : items_of kept ≡ []
-    none-there = ap (λ (segments : List (Segment T)). items_in segments ++ kept.unsealed) sealed ∙ unsealed
+record AreThree (all tiers : List Tier) : Type 0 where
+  whole : all ≡ tier_at tiers 0 ∷ tier_at tiers 1 ∷ tier_at tiers 2 ∷ []
+  others : rest_of tiers ≡ tier_at tiers 1 ∷ tier_at tiers 2 ∷ []
 
-    -- a tier may keep nothing
-    pub nothing-kept : (tier : Tier) (last limit : ℕ) → 1 ≤ tier.items → are_kept tier last limit kept ≡ true
-    nothing-kept tier last limit some =
-        and_from _ _
-        (and_from _ _
-        (and_from _ _
-        (ap (λ (segments : List (Segment T)). nat_le (length segments) tier.extents) sealed ∙ le-leb 0 tier.extents (omega arith))
-        (ap (λ (items : List (Item T)). nat_lt (length items) tier.items) unsealed ∙ lt-ltb 0 tier.items (omega (arith, some))))
-        (ap (are_sealed 0 last) sealed))
-        (ap (are_placed limit None) none-there)
+three-of : (tiers : List Tier) → HasWidths tiers → AreThree tiers tiers
+three-of [] widths = absurd cc
+three-of (first ∷ []) widths = absurd cc
+three-of (first ∷ minutes ∷ []) widths = absurd cc
+three-of (first ∷ minutes ∷ hours ∷ []) widths = record { whole = refl; others = refl }
+three-of (first ∷ minutes ∷ hours ∷ other ∷ others) widths = absurd cc
 
-    pub nothing-holds : (P : Item T → Type 0) → AllByRecursion P (items_of kept)
-    nothing-holds P = rw none-there tt
+module _ (body : Body) (spelt : HasSpelling body) (tiers : List Tier) (same : tiers ≡ body.settings.tiers) where
+  three : AreThree body.settings.tiers tiers
+  three = subst (λ (all : List Tier). AreThree all tiers) same (three-of tiers (subst HasWidths (sym same) spelt.settings.widths))
 
--- so may a tier of records
-pub nothing-recorded : (last : ℕ) (tier : Tier) (kept : KeptRecords) → 1 ≤ tier.items → kept.items.before ≡ 0 → kept.items.sealed ≡ [] → kept.items.unsealed ≡ [] → kept.current ≡ []
-    → is_record_tier last tier kept ≡ true
-nothing-recorded last tier kept some before sealed unsealed current =
-    and_from _ _ (and_from _ _ (eq-eqb kept.items.before 0 before) (nothing-kept kept.items sealed unsealed tier last (last / tier.width) some)) (ap (are_open 0) current)
+  pub left-first : IsTier (tier_at tiers 0)
+  left-first = first-tier body no_pages spelt (tier_at tiers 0) (tier_at tiers 1) (tier_at tiers 2) three.whole
 
--- a tier of points and two of records are in form
-pub two-formed : (first of_minutes of_hours : Tier) (last : ℕ) (points : KeptItems Stepped) (minutes hours : KeptRecords) → are_kept first last (last + 1) points ≡ true
-    → is_record_tier last of_minutes minutes ≡ true → is_record_tier last of_hours hours ≡ true
-    → are_in_form first (of_minutes ∷ of_hours ∷ []) last points (minutes ∷ hours ∷ []) ≡ true
-two-formed first of_minutes of_hours last points minutes hours points_are minutes_are hours_are = and_from _ _ points_are (and_from _ _ minutes_are (and_from _ _ hours_are refl))
+  each-other : AllByRecursion IsTier (tier_at tiers 1 ∷ tier_at tiers 2 ∷ [])
+  each-other = other-tiers body no_pages spelt (tier_at tiers 0) (tier_at tiers 1) (tier_at tiers 2) three.whole
+
+  pub left-minutes : IsTier (tier_at tiers 1)
+  left-minutes = each-other.0
+
+  pub left-hours : IsTier (tier_at tiers 2)
+  left-hours = each-other.1.0
+
+  pub left-others : AllByRecursion IsTier (rest_of tiers)
+  left-others = subst (AllByRecursion IsTier) (sym three.others) each-other
+
+  module _ (points : KeptItems Stepped) (minutes hours : KeptRecords) (records : List KeptRecords) (put : records ≡ minutes ∷ hours ∷ []) where
+    -- each tier is in form, so they all are
+    pub left-form : are_kept (tier_at tiers 0) body.last (body.last + 1) points ≡ true → is_record_tier body.last (tier_at tiers 1) minutes ≡ true
+        → is_record_tier body.last (tier_at tiers 2) hours ≡ true → are_in_form (tier_at tiers 0) (rest_of tiers) body.last points records ≡ true
+    left-form points_are minutes_are hours_are =
+        ap (λ (ts : List Tier). are_in_form (tier_at tiers 0) ts body.last points records) three.others
+        ∙ ap (λ (list : List KeptRecords). are_in_form (tier_at tiers 0) (tier_at tiers 1 ∷ tier_at tiers 2 ∷ []) body.last points list) put
+        ∙ and_from _ _ points_are (and_from _ _ minutes_are (and_from _ _ hours_are refl))
+
+    -- the tiers that come back are sound
+    pub left-sound : AllByRecursion IsPointItem (items_of points) → AllByRecursion IsRecordOfSeries (items_of minutes.items) → AllByRecursion IsRecordOfSeries (items_of hours.items)
+        → (state : TiersState) → restored (tier_at tiers 0) (rest_of tiers) body.last points records ≡ Some state → AreSound state × (state.last ≡ body.last)
+    left-sound points_are minutes_are hours_are state back =
+        let again : restored (tier_at tiers 0) (tier_at tiers 1 ∷ tier_at tiers 2 ∷ []) body.last points (minutes ∷ hours ∷ []) ≡ Some state =
+        sym (ap (λ (list : List KeptRecords). restored (tier_at tiers 0) (tier_at tiers 1 ∷ tier_at tiers 2 ∷ []) body.last points list) put)
+        ∙ sym (ap (λ (ts : List Tier). restored (tier_at tiers 0) ts body.last points records) three.others)
+        ∙ back in
+        let parts = cond_some (are_in_form (tier_at tiers 0) (tier_at tiers 1 ∷ tier_at tiers 2 ∷ []) body.last points (minutes ∷ hours ∷ [])) _ state again in
+        subst (λ (found : TiersState). AreSound found × (found.last ≡ body.last)) parts.1 (
+          record {
+            last = spelt.fits.last;
+            first = left-first;
+            others = each-other;
+            form = parts.0;
+            points = points_are;
+            records = (minutes_are, (hours_are, tt));
+          },
+          refl,
+        )

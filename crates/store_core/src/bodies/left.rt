@@ -106,8 +106,13 @@ pub fn left_tiers(alloc: Global, left: &Left) -> Result<Tiers, AllocError>
     let tiers = body.settings.tiers.as_slice();
     let (minutes, hours) = (tiers[1], tiers[2]);
     let points = left_point_tier(alloc, last, tiers[0], &body.points, kept.points.as_slice())?;
-    let of_minutes =
-        left_record_tier(alloc, last, minutes, &body.minutes, kept.minutes.as_slice())?;
+    let of_minutes = left_record_tier(
+        alloc,
+        last,
+        minutes,
+        &body.minutes,
+        kept.minutes.as_slice(),
+    )?;
     let of_hours = left_record_tier(alloc, last, hours, &body.hours, kept.hours.as_slice())?;
     let mut records = KeptRecordsList::new(alloc);
     records.push(of_minutes)?;

@@ -50,7 +50,6 @@ returns-clause-ready g c =
     let new = (g.H.Host.seen c.checkpoint.new.host).past in
     let ready = subst (IsReady g.H.Host.honest old) (sym c.self.view_is) c.requires.ready in
     let goes = subst (λ (s : StoreState). can_advance s ≡ true) (sym c.self.view_is) c.requires.going_on in
-    let numbered = (and_parts _ _ goes).1 in
     let replayed = subst (λ (s : StoreState). IsReplayed s) (sym c.self.view_is) c.requires.replayed in
     let going = subst (λ (s : StoreState). s.fault ≡ None) (sym c.self.view_is) c.requires.going in
     advance-ready g.H.Host.honest old new _ c.args.side c.in-Ok.body c.in-Ok.sealed c.checkpoint.new.self ready goes replayed going
