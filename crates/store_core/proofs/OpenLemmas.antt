@@ -1,5 +1,5 @@
 -- What a store is when it was made or opened.
-use Rattle.std.proofs.Common.{◌≡◌, ◌⊎◌, ℕ, true, false, ◌^◌, ◌<◌, ◌≤◌, ◌+◌, List, [], length, Option, is_some, Some, None, inl, inr, arith, refl, sym, ap, ◌∙◌, subst}
+use Rattle.std.proofs.Common.{◌≡◌, ◌⊎◌, ℕ, true, false, ◌^◌, ◌<◌, ◌≤◌, ◌+◌, List, [], length, Option, is_some, Some, None, Result, Ok, Err, IfOk, OnOk, inl, inr, arith, refl, sym, ap, ◌∙◌, subst}
 use Rattle.std.proofs.lemmas.Option.{none-some, same_Some}
 use Rattle.host_model.specs.declared.file.File.{File}
 use Rattle.host_model.specs.Disks.{EveryDisk}
@@ -20,6 +20,8 @@ use Rattle.store_core.specs.disk.Shares.{share, HasRoom}
 use Rattle.store_core.proofs.DiskProofs.OneLemmas.{one_contents}
 use Rattle.store_core.proofs.DiskProofs.ShareLemmas.{has_room}
 use Rattle.store_core.specs.declared.beats.beat.Beat.{Beat}
+use Rattle.store_core.specs.declared.fault.StoreFault.{StoreFault}
+use Rattle.store_core.specs.declared.fault.StoreFault.TheVariants.{Damaged, DiskFault, Memory}
 use Rattle.store_core.specs.beats.Records.{beats_from, with_all, AreNext}
 use Rattle.store_core.specs.Counts.{counted}
 use Rattle.store_core.proofs.BeatProofs.RecordLaw.{are-read, oldest_first, AreBytes}
@@ -194,3 +196,22 @@ unread contents none stored has =
 -- there is a database on a disk that is in form
 pub form-made : (body : Body) (beats : List Beat) (disk : File → List ℕ) → HasForm body beats disk → is_made disk ≡ true
 form-made body beats disk form = is-made disk ∙ ap (λ (slot : Option Slot). is_some slot) form.files.checkpoint.checkpoint
+
+-- where a part is damaged, neither the disk nor memory failed
+pub damaged-fails : (fault : StoreFault) (part : ℕ) → fault ≡ Damaged part → (fault ≡ DiskFault) ⊎ (fault ≡ Memory) → ⊥
+damaged-fails fault part is (inl failed) = let e : Damaged part ≡ DiskFault = sym is ∙ failed in cc
+damaged-fails fault part is (inr full) = let e : Damaged part ≡ Memory = sym is ∙ full in cc
+
+-- what always holds holds at each answer
+pub every-ok : {T E : Type 0} {P : T → Type 0} (result : Result T E) → ((value : T) → P value) → IfOk result P
+every-ok (Ok value) all = all value
+every-ok (Err fault) all = tt
+
+pub each-ok : {T E P : Type 0} (result : Result T E) → P → OnOk result P
+each-ok (Ok value) all = all
+each-ok (Err fault) all = tt
+
+-- a database that was opened is in form: it is there, and no part of it is damaged
+pub from-form : {T E P Q : Type 0} (result : Result T E) (Form : T → Type 0) → IfOk result (λ value. P → Form value) → ((value : T) → Form value → Q) → OnOk result (P → Q)
+from-form (Ok value) Form held all = λ p. all value (held p)
+from-form (Err fault) Form held all = tt
