@@ -212,6 +212,6 @@ each-ok (Ok value) all = all
 each-ok (Err fault) all = tt
 
 -- a database that was opened is in form: it is there, and no part of it is damaged
-pub from-form : {T E P Q : Type 0} (result : Result T E) (Form : T → Type 0) → IfOk result (λ value. P → Form value) → ((value : T) → Form value → Q) → OnOk result (P → Q)
-from-form (Ok value) Form held all = λ p. all value (held p)
-from-form (Err fault) Form held all = tt
+pub from-form : {T E : Type 0} (P Q : Type 0) (result : Result T E) (Form : T → Type 0) → IfOk result (λ value. P → Form value) → ((value : T) → Form value → Q) → OnOk result (P → Q)
+from-form P Q (Ok value) Form held all = λ p. all value (held p)
+from-form P Q (Err fault) Form held all = tt

@@ -53,12 +53,12 @@ returns-in-Err-Damaged-clause-form g c =
 pub returns-in-Err-Damaged-clause-some : goal.returns-in-Err-Damaged-clause-some
 returns-in-Err-Damaged-clause-some g c =
     let disk = reads_as (g.H.Host.seen c.args.host.now).past in
-    from-form c.open_left.result (λ store. HasForm store.body store.waiting disk) (returns-in-Err-Damaged-clause-form g c) (λ store form. form-made store.body store.waiting disk form)
+    from-form g.H.Host.honest _ c.open_left.result (λ store. HasForm store.body store.waiting disk) (returns-in-Err-Damaged-clause-form g c) (λ store form. form-made store.body store.waiting disk form)
 
 pub returns-in-Err-Damaged-clause-whole : goal.returns-in-Err-Damaged-clause-whole
 returns-in-Err-Damaged-clause-whole g c =
     let disk = reads_as (g.H.Host.seen c.args.host.now).past in
-    from-form c.open_left.result (λ store. HasForm store.body store.waiting disk) (returns-in-Err-Damaged-clause-form g c) (λ store form. form-undamaged store.body store.waiting disk form)
+    from-form g.H.Host.honest _ c.open_left.result (λ store. HasForm store.body store.waiting disk) (returns-in-Err-Damaged-clause-form g c) (λ store form. form-undamaged store.body store.waiting disk form)
 
 pub returns-in-Err-Damaged-clause-damaged : goal.returns-in-Err-Damaged-clause-damaged
 returns-in-Err-Damaged-clause-damaged g c part is h =
