@@ -8,6 +8,7 @@ use Rattle.field_codec.proofs.Lengths.{length-u32_bytes}
 use Rattle.std.proofs.lemmas.List.{length-append, length-map}
 use Rattle.std.proofs.lemmas.List.Elements.{recursion_from_All}
 use Rattle.storage_number.specs.Word.{is_word}
+use Rattle.health_config.specs.declared.config.TheConstants.{TEXT_LIMIT}
 use Rattle.history.specs.declared.beat.OpenDim.{OpenDim}
 use Rattle.history.specs.declared.chart.ChartDef.{ChartDef}
 use Rattle.history.specs.declared.numbered.NumberedBeat.{NumberedBeat}
@@ -114,7 +115,7 @@ health-length : (text : List ℕ) → length (entry_bytes (entry.Health text)) �
 unfolding entry_bytes sized_bytes
 health-length text = omega (arith, length-append (u32_bytes (length text)) text, length-u32_bytes (length text))
 
-module _ (points : List BeatPoint) (note text : List ℕ) (none : points ≡ []) (note_is : note ≡ entry_bytes (entry.Health text)) (few : length text ≤ 2 ^ 20) where
+module _ (points : List BeatPoint) (note text : List ℕ) (none : points ≡ []) (note_is : note ≡ entry_bytes (entry.Health text)) (few : length text ≤ TEXT_LIMIT) where
   pub health-form : InForm (record { moment = None; points = points; note = note })
   health-form =
       let size : length note ≡ length (entry_bytes (entry.Health text)) = ap length note_is in
@@ -130,6 +131,6 @@ module _ (points : List BeatPoint) (note text : List ℕ) (none : points ≡ [])
       omega (arith, beat_size (record { moment = None; points = points; note = note }), empty, size, health-length text, few)
 
 -- it has a spelling
-pub health-spelt : (text : List ℕ) → length text ≤ 2 ^ 20 → HasSpelling (entry.Health text)
+pub health-spelt : (text : List ℕ) → length text ≤ TEXT_LIMIT → HasSpelling (entry.Health text)
 unfolding is_canonical
 health-spelt text few = record { short = omega (arith, few); canonical = refl }

@@ -37,6 +37,7 @@ pub mod OpeningLemmas
 pub mod Outcomes
 pub mod PlaceLemmas
 pub mod PointLemmas
+pub mod ReadCalls
 pub mod ReplayLemmas
 pub mod ReplyLemmas
 pub mod RunLemmas

@@ -2,10 +2,16 @@
 use Rattle.std.proofs.Common.{◌≡◌, ◌⊎◌, inl, inr, ℕ, zero, suc, ◌≤◌, true, List, Option, Some, None, Result, Ok, Err, IfErr, IsErrOf, refl, sym, ap, ◌∙◌, subst, arith}
 use Rattle.std.specs.Option.{is_some}
 use Rattle.std.proofs.lemmas.Option.{none-some}
+use Rattle.alarm_core.specs.declared.fault.AlarmFault.{AlarmFault}
+use Rattle.alarm_core.specs.declared.fault.AlarmFault.TheVariants as alarms
 use Rattle.beat_entries.specs.declared.refusal.EntryRefusal.{EntryRefusal}
 use Rattle.beat_entries.specs.declared.refusal.EntryRefusal.TheVariants as refusal
-use Rattle.host_model.specs.Cause.{HasCause}
+use Rattle.entry_codec.specs.declared.fault.EntryFault.{EntryFault}
+use Rattle.entry_codec.specs.declared.fault.EntryFault.TheVariants as entry
+use Rattle.host_model.specs.Cause.{HasCause, Rose}
 use Rattle.host_model.specs.declared.file.File.{File}
+use Rattle.query_engine.specs.declared.fault.PointFault.{PointFault}
+use Rattle.query_engine.specs.declared.fault.PointFault.TheVariants as points
 use Rattle.store_core.specs.Damaged.{IsDamagedIn}
 use Rattle.store_core.specs.Stands.{is_made}
 use Rattle.store_core.specs.declared.fault.StoreFault.{StoreFault}
@@ -16,7 +22,7 @@ use Rattle.store_core.proofs.DamageLemmas.{form-undamaged}
 use Rattle.store_core.proofs.StandLemmas.{is-made}
 use Rattle.agent_core.specs.declared.fault.AgentFault.{AgentFault}
 use Rattle.agent_core.specs.declared.fault.AgentFault.TheVariants.{Refused, Health, DiskFault, NotADatabase, Damaged, Reopen, Exists, Memory}
-use Rattle.agent_core.specs.Faults.{fault_of, unread, IsOpening, IsUnopened, IsUnreplayed}
+use Rattle.agent_core.specs.Faults.{fault_of, of_alarms, of_entry, of_points, unread, IsOpening, IsUnopened, IsUnreplayed}
 use Rattle.agent_core.specs.Notes.{IsDamaged}
 
 -- ---- what a fault of a store is for an agent
@@ -87,6 +93,38 @@ unread-next refusal.Memory is = cc
 pub unread-either : (told : EntryRefusal) → (unread told ≡ Memory) ⊎ (unread told ≡ Damaged 5)
 unread-either refusal.NotNext = inr refl
 unread-either refusal.Memory = inl refl
+
+-- ---- what was not read, and what was not told
+
+damaged-not-memory : Memory ≡ Damaged 5 → ⊥
+damaged-not-memory e = cc
+
+-- what is damaged holds of a fault that is not memory
+pub where-damaged : {E P : Type 0} (of : E → AgentFault) (memory fault : E) → of memory ≡ Memory → of fault ≡ Damaged 5 → (fault ≡ memory) ⊎ P → P
+where-damaged of memory fault is damaged (inl e) = absurd (damaged-not-memory (sym is ∙ sym (ap of e) ∙ damaged))
+where-damaged of memory fault is damaged (inr holds) = holds
+
+pub memory-or-damaged : {E P : Type 0} (of : E → AgentFault) (memory bad fault : E) → of memory ≡ Memory → of bad ≡ Damaged 5 → (fault ≡ memory) ⊎ ((fault ≡ bad) × P)
+    → (of fault ≡ Memory) ⊎ (of fault ≡ Damaged 5)
+memory-or-damaged of memory bad fault is says (inl e) = inl (ap of e ∙ is)
+memory-or-damaged of memory bad fault is says (inr both) = inr (ap of both.0 ∙ says)
+
+pub entry-either : (fault : EntryFault) → (of_entry fault ≡ Memory) ⊎ (of_entry fault ≡ Damaged 5)
+entry-either entry.Short = inr refl
+entry-either entry.Range = inr refl
+entry-either entry.NotText = inr refl
+entry-either entry.UnknownKind = inr refl
+entry-either entry.NotCanonical = inr refl
+entry-either entry.Memory = inl refl
+
+-- where no disk is asked, memory ran out
+pub points-short : (fault : PointFault) → (fault ≡ points.Disk → ⊥) → of_points fault ≡ Memory
+points-short points.Disk never = absurd (never refl)
+points-short points.Memory never = refl
+
+pub alarms-short : (fault : AlarmFault) → (fault ≡ alarms.Disk) ⊎ (fault ≡ alarms.Memory) → (fault ≡ alarms.Disk → Rose 0 0) → of_alarms fault ≡ Memory
+alarms-short fault (inl disk) rose = elim (rose disk) [ inl below ↦ absurd (omega (arith, below)) | inr most ↦ absurd (omega (arith, most)) ]
+alarms-short fault (inr memory) rose = ap of_alarms memory
 
 -- ---- the parts
 

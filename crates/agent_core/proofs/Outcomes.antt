@@ -88,9 +88,6 @@ spending-health Exists spends = absurd spends
 pub short-reopens : (before : Option Why) (fault : AgentFault) → fault ≡ Memory → before ≡ None → ReopensWith before fault
 short-reopens before fault is going = subst (ReopensWith before) (sym is) going
 
-pub short-reads : (fault : AgentFault) → fault ≡ Memory → IsReading fault
-short-reads fault is = subst IsReading (sym is) tt
-
 pub short-changes : (fault : AgentFault) → fault ≡ Memory → LeavesAll fault → ⊥
 short-changes fault is leaves = subst LeavesAll is leaves
 

@@ -1,5 +1,5 @@
 -- A side is written of what beats left, and read back.
-use Rattle.std.proofs.Common.{◌≡◌, ◌⊎◌, inl, inr, ℕ, Bool, true, false, ◌&&◌, List, [], length, map, Option, Some, None, is_some, Result, Ok, Err, IfErr, refl, sym, ap, subst, ◌∙◌, true≢false, if◌then◌else◌}
+use Rattle.std.proofs.Common.{◌≡◌, ℕ, Bool, true, false, ◌&&◌, List, [], length, map, Option, Some, None, is_some, Result, Ok, Err, IfErr, refl, sym, ap, subst, ◌∙◌, true≢false, if◌then◌else◌}
 use Rattle.std.specs.Option.{option_and_then, option_map}
 use Rattle.std.proofs.lemmas.List.{length-map}
 use Rattle.std.proofs.lemmas.Option.{none-some, same_Some}
@@ -15,8 +15,6 @@ use Rattle.beat_entries.specs.Next.{goes_on, with_numbered}
 use Rattle.beat_entries.proofs.DefinedLemmas.{chart-alike, chart-itself, dimension-alike, dimension-itself}
 use Rattle.beat_entries.proofs.PutLemmas.{apart-put_all}
 use Rattle.entry_codec.specs.declared.entry.Entry.TheVariants as entry
-use Rattle.side_codec.specs.declared.fault.SideFault.{SideFault}
-use Rattle.side_codec.specs.declared.fault.SideFault.TheVariants.{BadBytes, Memory}
 use Rattle.side_codec.specs.declared.side.Side.{Side}
 use Rattle.side_codec.specs.Sides.{read_side, side_bytes, HasSpelling, IsNoSpelling}
 use Rattle.side_codec.proofs.SidesLaw.{is_read, reads_back}
@@ -138,12 +136,8 @@ no-spelling : (bytes : List ℕ) → IsBytes bytes → IsNoSpelling bytes → (f
 no-spelling bytes are never None e = e
 no-spelling bytes are never (Some side) e = let read = is_read bytes side are e in absurd (never side read.0 read.1)
 
-unread : (bytes : List ℕ) → IsBytes bytes → IsNoSpelling bytes → read_side bytes ≡ None
+pub unread : (bytes : List ℕ) → IsBytes bytes → IsNoSpelling bytes → read_side bytes ≡ None
 unread bytes are never = no-spelling bytes are never (read_side bytes) refl
-
-pub unread-if : (bytes : List ℕ) → IsBytes bytes → (fault : SideFault) → (fault ≡ Memory) ⊎ ((fault ≡ BadBytes) × IsNoSpelling bytes) → fault ≡ BadBytes → read_side bytes ≡ None
-unread-if bytes are fault (inl memory) bad = absurd (cc)
-unread-if bytes are fault (inr both) bad = unread bytes are both.1
 
 pub none-noted : (bytes : List ℕ) → read_side bytes ≡ None → noted_in_side bytes ≡ None
 unfolding noted_in_side

@@ -1,10 +1,18 @@
 -- What a fault of an agent leaves it as.
 use Rattle.std.specs.Prelude.{◌≡◌, ◌⊎◌, ◌≤◌, Option, Some, None, Result, Ok, Err}
+use Rattle.alarm_core.specs.declared.fault.AlarmFault.{AlarmFault}
+use Rattle.alarm_core.specs.declared.fault.AlarmFault.TheVariants as alarms
 use Rattle.beat_entries.specs.declared.refusal.EntryRefusal.{EntryRefusal}
 use Rattle.beat_entries.specs.declared.refusal.EntryRefusal.TheVariants as refusal
+use Rattle.entry_codec.specs.declared.fault.EntryFault.{EntryFault}
+use Rattle.entry_codec.specs.declared.fault.EntryFault.TheVariants as entry
 use Rattle.health_config.specs.declared.fault.ConfigFault.{ConfigFault}
 use Rattle.history.specs.declared.fault.BlockFault.{BlockFault}
 use Rattle.history.specs.declared.fault.BlockFault.TheVariants as block
+use Rattle.query_engine.specs.declared.fault.PointFault.{PointFault}
+use Rattle.query_engine.specs.declared.fault.PointFault.TheVariants as points
+use Rattle.side_codec.specs.declared.fault.SideFault.{SideFault}
+use Rattle.side_codec.specs.declared.fault.SideFault.TheVariants as side
 use Rattle.store_core.specs.declared.fault.StoreFault.{StoreFault}
 use Rattle.store_core.specs.declared.fault.StoreFault.TheVariants as store
 use Rattle.store_core.specs.declared.fault.Why.{Why}
@@ -26,6 +34,32 @@ fault_of store.Memory = Memory
 abbrev pub unread : EntryRefusal → AgentFault
 unread refusal.NotNext = Damaged 5
 unread refusal.Memory = Memory
+
+-- what it is for an agent that bytes are no entry, or that an entry was not written
+abbrev pub of_entry : EntryFault → AgentFault
+of_entry entry.Short = Damaged 5
+of_entry entry.Range = Damaged 5
+of_entry entry.NotText = Damaged 5
+of_entry entry.UnknownKind = Damaged 5
+of_entry entry.NotCanonical = Damaged 5
+of_entry entry.Memory = Memory
+
+-- what a fault of alarms is for an agent
+abbrev pub of_alarms : AlarmFault → AgentFault
+of_alarms alarms.Disk = DiskFault
+of_alarms alarms.BadBytes = Damaged 5
+of_alarms alarms.TooLong = Memory
+of_alarms alarms.Memory = Memory
+
+-- what it is for an agent that points were not given
+abbrev pub of_points : PointFault → AgentFault
+of_points points.Disk = DiskFault
+of_points points.Memory = Memory
+
+-- what it is for an agent that bytes gave no side
+abbrev pub of_side : SideFault → AgentFault
+of_side side.BadBytes = Damaged 5
+of_side side.Memory = Memory
 
 -- the cause that a fault leaves
 abbrev pub cause_of : AgentFault → Option Why

@@ -119,17 +119,15 @@ impl Agent {
     {
         let left = Left::new(alloc)?;
         let side = write_left(alloc, &left, 0)?;
-        match Store::create(alloc, host, settings, side) {
-            Ok(store) => Ok(Agent {
-                alloc,
-                store,
-                left,
-                last: 0,
-                count: 0,
-                fault: None,
-            }),
-            Err(fault) => Err(AgentFault::from(fault)),
-        }
+        let store = Store::create(alloc, host, settings, side)?;
+        Ok(Agent {
+            alloc,
+            store,
+            left,
+            last: 0,
+            count: 0,
+            fault: None,
+        })
     }
 
     /// Opens the database of an agent and goes through all that it holds.
@@ -474,10 +472,7 @@ impl Agent {
         if let Some(cause) = self.fault {
             return Err(AgentFault::Reopen(cause));
         }
-        match self.left.alarms.log() {
-            Ok(log) => Ok(log),
-            Err(_) => Err(AgentFault::Memory),
-        }
+        Ok(self.left.alarms.log()?)
     }
 
     /// The floor of tier 0, 1 or 2, in seconds: the first moment of which the tier still answers, or 0.

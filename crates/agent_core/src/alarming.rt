@@ -115,13 +115,9 @@ fn step<H: Host>(
     ensures host { H.seen host.new ≡ H.seen host.old }
     ensures memory { IfErr result (λ fault. fault ≡ AgentFault.Memory) }
 {
+    // No point of a store is read from the disk, which does not fail then.
     let mut view = StoreView { store, host };
-    match step_on(alarms, &mut view, registry, latest, moment, defines) {
-        Ok(events) => Ok(events),
-        // No point of a store is read from the disk.
-        Err(AlarmFault::Disk) => unreachable!(),
-        Err(_) => Err(AgentFault::Memory),
-    }
+    Ok(step_on(alarms, &mut view, registry, latest, moment, defines)?)
 }
 
 /// Gives alarms another configuration at a moment. After an `Err` nothing is known of the alarms.
@@ -140,10 +136,7 @@ fn configure(
     ensures up_to { OnOk result (IsUpTo alarms.new registry.now) }
     ensures memory { IfErr result (λ fault. fault ≡ AgentFault.Memory) }
 {
-    match alarms.configure(config, registry, moment) {
-        Ok(events) => Ok(events),
-        Err(_) => Err(AgentFault::Memory),
-    }
+    Ok(alarms.configure(config, registry, moment)?)
 }
 
 /// Has the alarms follow a beat that is stored, which all else has taken, and gives the events that it tells. After

@@ -16,7 +16,7 @@ use crate::fault::AgentFault;
 use chart_registry::Registry;
 use fixed_num::Text;
 use host_model::Host;
-use query_engine::{PointFault, Request, Table};
+use query_engine::{Request, Table};
 use query_text::{QueryFault, read_query, write_fault, write_table};
 use std::alloc::Global;
 use store_core::{Kept, Store, answer_by};
@@ -36,11 +36,7 @@ fn table_of<H: Host>(
     ensures host { H.seen host.new ≡ H.seen host.old }
     ensures memory { IfErr result (λ fault. fault ≡ AgentFault.Memory) }
 {
-    match answer_by(alloc, store, host, request) {
-        Ok(table) => Ok(table),
-        Err(PointFault::Disk) => Err(AgentFault::DiskFault),
-        Err(PointFault::Memory) => Err(AgentFault::Memory),
-    }
+    Ok(answer_by(alloc, store, host, request)?)
 }
 
 /// The reply to a query, of which this was read.
@@ -60,12 +56,10 @@ fn reply_to<H: Host>(
     ensures host { H.seen host.new ≡ H.seen host.old }
     ensures memory { IfErr result (λ fault. fault ≡ AgentFault.Memory) }
 {
-    match table_of(alloc, store, host, request) {
-        Ok(table) => match write_table(alloc, request, registry, &table) {
-            Ok(text) => Ok(text),
-            Err(_) => Err(AgentFault::Memory),
-        },
-        Err(fault) => Err(fault),
+    let table = table_of(alloc, store, host, request)?;
+    match write_table(alloc, request, registry, &table) {
+        Ok(text) => Ok(text),
+        Err(_) => Err(AgentFault::Memory),
     }
 }
 
@@ -111,8 +105,5 @@ pub(crate) fn kept<H: Host>(store: &mut Store, host: &mut H) -> Result<Kept, Age
     ensures host { H.seen host.new ≡ H.seen host.old }
     ensures memory { IfErr result (λ fault. fault ≡ AgentFault.Memory) }
 {
-    match store.kept(host) {
-        Ok(kept) => Ok(kept),
-        Err(fault) => Err(AgentFault::from(fault)),
-    }
+    Ok(store.kept(host)?)
 }

@@ -192,11 +192,6 @@ pub(crate) fn answer<H: Host>(
         return Ok(None);
     }
     let floor = store.floor(0);
-    match store.kept_above(host, from_of(floor, ask.last), BEAT_LIMIT) {
-        Ok(kept) => match answer_by(alloc, child, floor, registry, &kept, *ask) {
-            Ok(answer) => Ok(answer),
-            Err(_) => Err(AgentFault::Memory),
-        },
-        Err(fault) => Err(AgentFault::from(fault)),
-    }
+    let kept = store.kept_above(host, from_of(floor, ask.last), BEAT_LIMIT)?;
+    Ok(answer_by(alloc, child, floor, registry, &kept, *ask)?)
 }

@@ -1,10 +1,15 @@
 ghost use Rattle.std.specs.Prelude.{◌≡◌};
-ghost use Rattle.agent_core.specs.Faults.{fault_of, unread};
+ghost use Rattle.agent_core.specs.Faults.{fault_of, of_alarms, of_entry, of_points, of_side, unread};
 ghost use Rattle.agent_core.specs.declared.fault.AgentFault.TheVariants.{Memory};
 
+use alarm_core::AlarmFault;
 use beat_entries::EntryRefusal;
+use entry_codec::EntryFault;
 use health_config::ConfigFault;
 use history::BlockFault;
+use query_engine::PointFault;
+use replication::CopyFault;
+use side_codec::SideFault;
 use std::alloc::{AllocError, AllocFailed};
 use store_core::{StoreFault, Why};
 use thiserror::Error;
@@ -75,6 +80,22 @@ impl<T: Drop> From<AllocFailed<T>> for AgentFault {
     }
 }
 
+impl From<beat_points::PointFault> for AgentFault {
+    ghost from_gives = { λ _ fault. fault ≡ Memory };
+
+    fn from(_error: beat_points::PointFault) -> AgentFault {
+        AgentFault::Memory
+    }
+}
+
+impl From<CopyFault> for AgentFault {
+    ghost from_gives = { λ _ fault. fault ≡ Memory };
+
+    fn from(_error: CopyFault) -> AgentFault {
+        AgentFault::Memory
+    }
+}
+
 /// What is stored and does not go on is damaged.
 impl From<EntryRefusal> for AgentFault {
     ghost from_gives = { λ refusal fault. fault ≡ unread refusal };
@@ -83,6 +104,59 @@ impl From<EntryRefusal> for AgentFault {
         match refusal {
             EntryRefusal::NotNext => AgentFault::Damaged(5),
             EntryRefusal::Memory => AgentFault::Memory,
+        }
+    }
+}
+
+/// What is stored and is no entry is damaged.
+impl From<EntryFault> for AgentFault {
+    ghost from_gives = { λ fault given. given ≡ of_entry fault };
+
+    fn from(fault: EntryFault) -> AgentFault {
+        match fault {
+            EntryFault::Short
+            | EntryFault::Range
+            | EntryFault::NotText
+            | EntryFault::UnknownKind
+            | EntryFault::NotCanonical => AgentFault::Damaged(5),
+            EntryFault::Memory => AgentFault::Memory,
+        }
+    }
+}
+
+/// What is stored and is no alarms is damaged. Alarms that are too long for bytes are as those for which there is no
+/// memory: no side has them.
+impl From<AlarmFault> for AgentFault {
+    ghost from_gives = { λ fault given. given ≡ of_alarms fault };
+
+    fn from(fault: AlarmFault) -> AgentFault {
+        match fault {
+            AlarmFault::Disk => AgentFault::DiskFault,
+            AlarmFault::BadBytes => AgentFault::Damaged(5),
+            AlarmFault::TooLong | AlarmFault::Memory => AgentFault::Memory,
+        }
+    }
+}
+
+impl From<PointFault> for AgentFault {
+    ghost from_gives = { λ fault given. given ≡ of_points fault };
+
+    fn from(fault: PointFault) -> AgentFault {
+        match fault {
+            PointFault::Disk => AgentFault::DiskFault,
+            PointFault::Memory => AgentFault::Memory,
+        }
+    }
+}
+
+/// What is stored and is no side is damaged.
+impl From<SideFault> for AgentFault {
+    ghost from_gives = { λ fault given. given ≡ of_side fault };
+
+    fn from(fault: SideFault) -> AgentFault {
+        match fault {
+            SideFault::BadBytes => AgentFault::Damaged(5),
+            SideFault::Memory => AgentFault::Memory,
         }
     }
 }

@@ -1,6 +1,7 @@
 //! What a store keeps of a beat, and how it is added to a history.
 
-ghost use Rattle.std.specs.Prelude.{◌≡◌, ◌↔◌, ◌<◌, ◌≤◌, ◌^◌, [], ◌∷◌, ◌⊎◌, ℕ, List, Some, None, true, false, length, IfOk, IfErr, IfSome, OnOk};
+ghost use Rattle.std.specs.Prelude.{◌≡◌, ◌↔◌, ◌<◌, ◌≤◌, [], ◌∷◌, ◌⊎◌, ℕ, List, Some, None, true, false, length, IfOk, IfErr, IfSome, OnOk};
+ghost use Rattle.health_config.specs.declared.config.TheConstants.{TEXT_LIMIT};
 ghost use Rattle.host_model.specs.Disks.{EveryDisk};
 ghost use Rattle.host_model.specs.Moments.{Throughout};
 ghost use Rattle.history.specs.declared.beat.OpenBeat.{OpenBeat as AnOpenBeat};
@@ -35,10 +36,10 @@ use crate::points::stored_points;
 use crate::side::write_left;
 use beat_points::LastRows;
 use chart_registry::Registry;
-use entry_codec::{Entry, EntryFault, write_collected, write_entry};
+use entry_codec::{Entry, write_collected, write_entry};
 use history::{NumberedBeat, OpenBeat};
 use host_model::Host;
-use std::alloc::{AllocError, Global};
+use std::alloc::Global;
 use store_core::{Beat, BeatPoint, BeatPointList, ByteList, Store};
 
 /// What a store keeps of a numbered beat, whose definitions the registry has.
@@ -47,7 +48,7 @@ fn stored_beat(
     registry: &Registry,
     last_rows: &LastRows,
     numbered: &NumberedBeat,
-) -> Result<Beat, AllocError>
+) -> Result<Beat, AgentFault>
     requires there { IsThere registry.now numbered.now }
     requires canonical { is_collected_canonical numbered.now ≡ true }
     requires limits { IsWithinLimits numbered.now }
@@ -66,10 +67,9 @@ fn stored_beat(
     ensures named { IfOk result (λ kept. names_series registry.now kept.points ≡ true) }
     ensures form { IfOk result InForm }
     ensures size { IfOk result FitsARecord }
+    ensures memory { IfErr result (λ fault. fault ≡ AgentFault.Memory) }
 {
-    let Ok(words) = last_rows.points(alloc, registry, numbered) else {
-        return Err(AllocError);
-    };
+    let words = last_rows.points(alloc, registry, numbered)?;
     let points = stored_points(alloc, registry, words.as_slice())?;
     let note = write_collected(alloc, numbered)?;
     Ok(Beat {
@@ -113,10 +113,8 @@ pub(crate) fn make_room<H: Host>(
         return Ok(());
     }
     let side = write_left(alloc, left, store.floor(0))?;
-    match store.checkpoint(host, side) {
-        Ok(()) => Ok(()),
-        Err(fault) => Err(AgentFault::from(fault)),
-    }
+    store.checkpoint(host, side)?;
+    Ok(())
 }
 
 /// Adds a beat to a store that is still of use, where no checkpoint is due.
@@ -150,29 +148,13 @@ pub(crate) fn commit<H: Host>(
     ensures last { OnOk result
         (store.new.tiers.last ≡ last_after store.old.tiers.last kept.now.moment) }
 {
-    match store.commit(host, kept) {
-        Ok(()) => Ok(()),
-        Err(fault) => Err(AgentFault::from(fault)),
-    }
-}
-
-/// Why an entry that has a spelling was not written: memory ran out.
-pub(crate) fn unwritten(fault: EntryFault) -> AllocError
-    requires { fault ≡ EntryFault.Memory }
-{
-    match fault {
-        EntryFault::Memory => AllocError,
-        EntryFault::Short
-        | EntryFault::Range
-        | EntryFault::NotText
-        | EntryFault::UnknownKind
-        | EntryFault::NotCanonical => unreachable!(),
-    }
+    store.commit(host, kept)?;
+    Ok(())
 }
 
 /// What a store keeps of a configuration, whose text is no longer than a health text may be.
-fn health_beat(alloc: Global, text: &[u8]) -> Result<Beat, AllocError>
-    requires { length text.now ≤ 2 ^ 20 }
+fn health_beat(alloc: Global, text: &[u8]) -> Result<Beat, AgentFault>
+    requires { length text.now ≤ TEXT_LIMIT }
     ensures kept { IfOk result (λ kept. kept ≡ record {
       moment = None;
       points = [];
@@ -181,16 +163,15 @@ fn health_beat(alloc: Global, text: &[u8]) -> Result<Beat, AllocError>
     ensures spelt { OnOk result (HasSpelling (entry.Health text.now)) }
     ensures form { IfOk result InForm }
     ensures size { IfOk result FitsARecord }
+    ensures memory { IfErr result (λ fault. fault ≡ AgentFault.Memory) }
 {
     let entry = Entry::Health(ByteList::from_slice(alloc, text)?);
-    match write_entry(alloc, &entry) {
-        Ok(note) => Ok(Beat {
-            moment: None,
-            points: BeatPointList::new(alloc),
-            note,
-        }),
-        Err(fault) => Err(unwritten(fault)),
-    }
+    let note = write_entry(alloc, &entry)?;
+    Ok(Beat {
+        moment: None,
+        points: BeatPointList::new(alloc),
+        note,
+    })
 }
 
 /// Adds a configuration, whose text nothing refuses, to a store that is still of use. At every moment a crash
@@ -206,7 +187,7 @@ pub(crate) fn add_health<H: Host>(
     requires replayed { IsReplayed store.old }
     requires going { store.old.fault ≡ None }
     requires accepted { health_refusal text.now ≡ None }
-    requires short { length text.now ≤ 2 ^ 20 }
+    requires short { length text.now ≤ TEXT_LIMIT }
     ensures any_moment { H.honest → (set : ASettings) (h : List HistoryBeat)
         → HoldsHistory (H.seen host.old).past store.old set h → IsLeftBy set h left.now
         → Throughout (EveryDisk (λ disk. StandsForHistory set h disk
@@ -240,10 +221,8 @@ pub(crate) fn take_rows(
     ensures taken { OnOk result (HasTakenRows registry.now last_rows.old last_rows.new beat.now) }
     ensures memory { IfErr result (λ fault. fault ≡ AgentFault.Memory) }
 {
-    match last_rows.apply(registry, beat) {
-        Ok(()) => Ok(()),
-        Err(_) => Err(AgentFault::Memory),
-    }
+    last_rows.apply(registry, beat)?;
+    Ok(())
 }
 
 /// Takes a numbered beat and its points as what was last seen. `before` is the last moment before it.

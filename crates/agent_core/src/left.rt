@@ -91,9 +91,7 @@ impl Left {
         ensures fit { IfOk result IsFit }
         ensures memory { IfErr result (λ fault. fault ≡ AgentFault.Memory) }
     {
-        let Ok(alarms) = Alarms::new(alloc) else {
-            return Err(AgentFault::Memory);
-        };
+        let alarms = Alarms::new(alloc)?;
         let registry = Registry::new(alloc);
         let last_rows = LastRows::new(alloc);
         let latest = nothing_seen(alloc);

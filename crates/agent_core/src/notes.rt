@@ -25,7 +25,7 @@ use crate::keeping::{see_beat, see_copy, take_rows};
 use crate::left::{Left, Role};
 use beat_entries::{define, define_copied};
 use chart_registry::Registry;
-use entry_codec::{Copied, Entry, EntryFault, Gap, read_entry};
+use entry_codec::{Copied, Entry, Gap, read_entry};
 use health_config::{Config, ConfigFault};
 use history::NumberedBeat;
 use side_codec::GapSpan;
@@ -54,16 +54,11 @@ fn entry_in(alloc: Global, kept: &Beat) -> Result<Entry, AgentFault>
     ensures faults { IfErr result
         (λ fault. (fault ≡ AgentFault.Memory) ⊎ (fault ≡ AgentFault.Damaged 5)) }
 {
-    match read_entry(alloc, kept.note.as_slice()) {
-        Ok(entry) => {
-            if moment_of(&entry) == kept.moment {
-                Ok(entry)
-            } else {
-                Err(AgentFault::Damaged(5))
-            }
-        }
-        Err(EntryFault::Memory) => Err(AgentFault::Memory),
-        Err(_) => Err(AgentFault::Damaged(5)),
+    let entry = read_entry(alloc, kept.note.as_slice())?;
+    if moment_of(&entry) == kept.moment {
+        Ok(entry)
+    } else {
+        Err(AgentFault::Damaged(5))
     }
 }
 

@@ -65,10 +65,7 @@ pub(crate) fn open_store<H: Host>(alloc: Global, host: &mut H) -> Result<Store, 
     ensures only_here { H.honest → OnlyOwn (H.seen host.old).past (H.seen host.new).past }
     ensures tells { (H.seen host.new).tell_faults ≡ (H.seen host.old).tell_faults }
 {
-    match Store::open(alloc, host) {
-        Ok(store) => Ok(store),
-        Err(fault) => Err(AgentFault::from(fault)),
-    }
+    Ok(Store::open(alloc, host)?)
 }
 
 /// Gives the next beat that a store has to replay.
@@ -88,10 +85,7 @@ fn next_beat<H: Host>(store: &mut Store, _host: &mut H) -> Result<Option<Beat>, 
     ensures host { _host.new ≡ _host.old }
     ensures faults { IfErr result (λ fault. fault ≡ AgentFault.Memory) }
 {
-    match store.replay() {
-        Ok(next) => Ok(next),
-        Err(fault) => Err(AgentFault::from(fault)),
-    }
+    Ok(store.replay()?)
 }
 
 /// Replays the next beat, and whether there was one.

@@ -1,6 +1,6 @@
 //! The side of a checkpoint: what beats left, as bytes and back.
 
-ghost use Rattle.std.specs.Prelude.{◌≡◌, ◌⊎◌, ◌<◌, ◌≤◌, ◌^◌, List, [], None, Some, true, false, length, map, slice_get, IfErr, IfOk, IfSome, OnOk};
+ghost use Rattle.std.specs.Prelude.{◌≡◌, ◌⊎◌, ◌<◌, ◌≤◌, ◌^◌, List, None, Some, true, false, length, map, slice_get, IfErr, IfOk, IfSome, OnOk};
 ghost use Rattle.std.specs.Option.{option_map};
 ghost use Rattle.history.specs.History.{Beat as HistoryBeat};
 ghost use Rattle.history.specs.Registry.{empty};
@@ -8,6 +8,7 @@ ghost use Rattle.tier_settings.specs.declared.settings.Settings.{Settings as ASe
 ghost use Rattle.alarm_core.specs.Course.{held};
 ghost use Rattle.alarm_core.specs.Kept.{kept, of_kept};
 ghost use Rattle.alarm_core.specs.UpTo.{IsUpTo};
+ghost use Rattle.alarm_events.specs.declared.log.TheConstants.{SHOWN};
 ghost use Rattle.beat_entries.specs.Next.{goes_on, with_numbered};
 ghost use Rattle.store_core.specs.declared.beats.beat.Beat.{Beat as StoreBeat};
 ghost use Rattle.side_codec.specs.Sides.{read_side, HasSpelling};
@@ -18,22 +19,21 @@ ghost use Rattle.agent_core.specs.Kept.{AreBeatsOf};
 ghost use Rattle.agent_core.specs.Left.{IsFit, IsLeftBy};
 ghost use Rattle.agent_core.specs.Notes.{is_good, noted_in, noted_in_side, role_in};
 ghost use Rattle.agent_core.specs.Sides.{all_charts, all_dimensions, dimension_at, filled, point_back, raw_of, side_by, side_role, stored_point, IsReadFrom, IsSideOf};
+ghost use Rattle.agent_core.specs.Storing.{defining};
 
 use crate::fault::AgentFault;
 use crate::gaps::Gaps;
 use crate::left::{Left, Role};
-use alarm_core::{AlarmFault, Alarms, Latest, SeriesPointList, SeriesValueList};
+use alarm_core::{Alarms, Latest, SeriesPointList, SeriesValueList};
 use alarm_events::KeptAlarms;
 use algorithms::Last;
-use beat_entries::{EntryRefusal, define};
+use beat_entries::define;
 use beat_points::LastRows;
 use chart_registry::Registry;
 use fixed_num::{ByteList, ListOf};
 use history::{ChartList, DimensionList, NumberedBeat, NumberedChart, NumberedDimension, RowList};
 use query_engine::Point;
-use side_codec::{
-    LastPoint, LastPointList, Side, SideFault, SideRole, is_short, read_side, write_side,
-};
+use side_codec::{LastPoint, LastPointList, Side, SideRole, is_short, read_side, write_side};
 use std::alloc::{AllocError, Global};
 use storage_number::is_word;
 
@@ -126,20 +126,11 @@ fn stored_points(alloc: Global, points: &[Option<Point>]) -> Result<LastPointLis
     Ok(stored)
 }
 
-/// What is kept of the alarms.
-fn keep_alarms(alarms: &Alarms) -> Result<KeptAlarms, AllocError>
-    ensures { IfOk result (λ kept_alarms. kept_alarms ≡ kept (held alarms.now)) }
-{
-    match alarms.keep() {
-        Ok(kept) => Ok(kept),
-        Err(_) => Err(AllocError),
-    }
-}
-
 /// The side of what beats left, where this is the floor of tier 0.
 #[tactic(auto, unfolding(crate::specs::Sides::side_by))]
-fn side_of(alloc: Global, left: &Left, floor: u32) -> Result<Side, AllocError>
-    ensures { IfOk result (λ side. side ≡ side_by floor left.now) }
+fn side_of(alloc: Global, left: &Left, floor: u32) -> Result<Side, AgentFault>
+    ensures side { IfOk result (λ side. side ≡ side_by floor left.now) }
+    ensures memory { IfErr result (λ fault. fault ≡ AgentFault.Memory) }
 {
     let registry = &left.registry;
     let charts = registry.charts() as usize;
@@ -152,7 +143,7 @@ fn side_of(alloc: Global, left: &Left, floor: u32) -> Result<Side, AllocError>
         chart_moments: filled(alloc, left.latest.charts.as_slice(), charts, 0)?,
         last_rows: filled(alloc, left.last_rows.as_slice(), series, None)?,
         last_points: stored_points(alloc, points.as_slice())?,
-        alarms: keep_alarms(&left.alarms)?,
+        alarms: left.alarms.keep()?,
         gaps: left.gaps.above(alloc, floor)?,
     })
 }
@@ -168,15 +159,11 @@ pub(crate) fn write_left(alloc: Global, left: &Left, floor: u32) -> Result<ByteL
         → length bytes ≤ side_limit (length (gaps_above floor left.now.gaps))) }
     ensures memory { IfErr result (λ fault. fault ≡ AgentFault.Memory) }
 {
-    let Ok(side) = side_of(alloc, left, floor) else {
-        return Err(AgentFault::Memory);
-    };
+    let side = side_of(alloc, left, floor)?;
     if !is_short(&side) {
         return Err(AgentFault::Memory);
     }
-    let Ok(bytes) = write_side(alloc, &side) else {
-        return Err(AgentFault::Memory);
-    };
+    let bytes = write_side(alloc, &side)?;
     if bytes.len() > MOST_BYTES {
         return Err(AgentFault::Memory);
     }
@@ -247,12 +234,12 @@ fn defined(
     charts: ChartList,
     dimensions: DimensionList,
 ) -> Result<Registry, AgentFault>
-    ensures defined { IfOk result (λ registry. registry ≡ with_numbered empty
-        (record { moment = 0; charts = charts; dimensions = dimensions; rows = [] })) }
-    ensures next { OnOk result (goes_on empty
-        (record { moment = 0; charts = charts; dimensions = dimensions; rows = [] }) ≡ true) }
-    ensures broken { IfErr result (λ fault. fault ≡ AgentFault.Damaged 5 → goes_on empty
-        (record { moment = 0; charts = charts; dimensions = dimensions; rows = [] }) ≡ false) }
+    ensures defined { IfOk result
+        (λ registry. registry ≡ with_numbered empty (defining charts dimensions)) }
+    ensures next { OnOk result (goes_on empty (defining charts dimensions) ≡ true) }
+    ensures broken { IfErr result
+        (λ fault. fault ≡ AgentFault.Damaged 5
+        → goes_on empty (defining charts dimensions) ≡ false) }
     ensures faults { IfErr result
         (λ fault. (fault ≡ AgentFault.Memory) ⊎ (fault ≡ AgentFault.Damaged 5)) }
 {
@@ -263,16 +250,13 @@ fn defined(
         dimensions,
         rows: RowList::new(alloc),
     };
-    match define(&mut registry, &beat) {
-        Ok(()) => Ok(registry),
-        Err(EntryRefusal::NotNext) => Err(AgentFault::Damaged(5)),
-        Err(EntryRefusal::Memory) => Err(AgentFault::Memory),
-    }
+    define(&mut registry, &beat)?;
+    Ok(registry)
 }
 
 /// The alarms that were kept so, or the database is damaged.
 fn alarms_of(alloc: Global, kept: &KeptAlarms, registry: &Registry) -> Result<Alarms, AgentFault>
-    requires { length kept.now.events ≤ 1000 }
+    requires { length kept.now.events ≤ SHOWN }
     ensures held { IfOk result (λ alarms. of_kept registry.now kept.now ≡ Some (held alarms)) }
     ensures up_to { IfOk result (λ alarms. IsUpTo alarms registry.now) }
     ensures broken { IfErr result
@@ -280,11 +264,7 @@ fn alarms_of(alloc: Global, kept: &KeptAlarms, registry: &Registry) -> Result<Al
     ensures faults { IfErr result
         (λ fault. (fault ≡ AgentFault.Memory) ⊎ (fault ≡ AgentFault.Damaged 5)) }
 {
-    match Alarms::from_kept(alloc, kept, registry) {
-        Ok(alarms) => Ok(alarms),
-        Err(AlarmFault::BadBytes) => Err(AgentFault::Damaged(5)),
-        Err(_) => Err(AgentFault::Memory),
-    }
+    Ok(Alarms::from_kept(alloc, kept, registry)?)
 }
 
 /// What was last seen, from a side.
@@ -354,11 +334,7 @@ fn side_in(alloc: Global, bytes: &[u8]) -> Result<Side, AgentFault>
     ensures faults { IfErr result
         (λ fault. (fault ≡ AgentFault.Memory) ⊎ (fault ≡ AgentFault.Damaged 5)) }
 {
-    match read_side(alloc, bytes) {
-        Ok(side) => Ok(side),
-        Err(SideFault::BadBytes) => Err(AgentFault::Damaged(5)),
-        Err(SideFault::Memory) => Err(AgentFault::Memory),
-    }
+    Ok(read_side(alloc, bytes)?)
 }
 
 /// What beats left, from the side of it, or the database is damaged.

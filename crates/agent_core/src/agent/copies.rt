@@ -1,6 +1,6 @@
 //! The calls by which an agent copies a child, and by which a parent copies it.
 
-ghost use Rattle.std.specs.Prelude.{◌≡◌, ◌<◌, ◌≤◌, ◌+◌, ◌^◌, ℕ, [], List, length, None, IfOk, IfErr, IfSome, IsErrOf, OnOk, OnErr};
+ghost use Rattle.std.specs.Prelude.{◌≡◌, ◌<◌, ◌≤◌, ◌+◌, ◌^◌, ℕ, [], List, length, None, IfOk, IfErr, IsErrOf, OnOk, OnErr};
 ghost use Rattle.host_model.specs.Past.{Event};
 ghost use Rattle.host_model.specs.Disks.{EveryDisk};
 ghost use Rattle.host_model.specs.Cause.{HasCause};
@@ -10,14 +10,11 @@ ghost use Rattle.tier_settings.specs.declared.settings.Settings.{Settings as ASe
 ghost use Rattle.store_core.specs.disk.Holds.{OnlyOwn};
 ghost use Rattle.store_core.specs.Counts.{counted};
 ghost use Rattle.replication.specs.Verdict.{is_stored};
-ghost use Rattle.link_frames.specs.declared.frame.Frame.TheVariants as frame;
 ghost use Rattle.link_frames.specs.DataForm.{IsData};
-ghost use Rattle.link_frames.specs.Frames.{HasSpelling};
 ghost use Rattle.agent_core.specs.Bound.{GrowsWithin};
 ghost use Rattle.agent_core.specs.Calls.{agent_verdict, AnswersAsk, TakesData};
-ghost use Rattle.agent_core.specs.Copies.{data_of_history};
 ghost use Rattle.agent_core.specs.Copying.{beats_of, copy_refusal, events_onto};
-ghost use Rattle.agent_core.specs.Faults.{fault_after, IsReading, IsSpending, LeavesAll, Reopens};
+ghost use Rattle.agent_core.specs.Faults.{fault_after, IsSpending};
 ghost use Rattle.agent_core.specs.Gaps.{side_share};
 ghost use Rattle.agent_core.specs.Kept.{onto};
 ghost use Rattle.agent_core.specs.Stands.{StandsForPrefix};
@@ -167,28 +164,6 @@ impl Agent {
         requires { AgentIsReady H.honest (H.seen host.old).past self.old }
         ensures { AnswersAsk H.honest (H.seen host.old) self.old ask.now
             result (H.seen host.new) self.new }
-    {
-        self.answer(host, ask)
-    }
-
-    fn answer<H: Host>(&mut self, host: &mut H, ask: &Ask) -> Result<Option<Data>, AgentFault>
-        requires { AgentIsReady H.honest (H.seen host.old).past self.old }
-        ensures answered { IfOk result (λ answer. (set : ASettings) (h : List HistoryBeat)
-            → IsAgentOf (H.seen host.old).past self.old set h
-            → answer ≡ data_of_history set h ask.now) }
-        ensures form { IfOk result
-            (λ answer. IfSome answer (λ message. HasSpelling (frame.Data message))) }
-        ensures asked { IfOk result (λ answer. IfSome answer
-            (λ message. (message.child ≡ id_of self.old) × (message.prev ≡ ask.now.last))) }
-        ensures host { H.seen host.new ≡ H.seen host.old }
-        ensures done { OnOk result (self.new ≡ self.old) }
-        ensures unchanged { IfErr result (λ fault. LeavesAll fault → self.new ≡ self.old) }
-        ensures faults { IfErr result IsReading }
-        ensures fault { self.new.fault ≡ fault_after self.old.fault result }
-        ensures reopens { Reopens self.old.fault result }
-        ensures stays { self.new ≡ record self.old { fault = self.new.fault } }
-        ensures cause { HasCause (H.seen host.old).disk_faults (H.seen host.new).disk_faults
-            (IsErrOf result AgentFault.DiskFault) }
     {
         if let Some(cause) = self.fault {
             return Err(AgentFault::Reopen(cause));

@@ -15,21 +15,21 @@ pub returns-then-ask-child-clause-answered : goal.returns-then-ask-child-clause-
 returns-then-ask-child-clause-answered g c past set h holds same =
     not-asked past c.args.store.now set h holds c.args.ask.now (λ e. c.if-ask-child.true (e ∙ sym (ap (λ (set : Settings). set.id) c.settings.ensures)))
 
-pub returns-in-Ok-answer_by-clause-answered : goal.returns-in-Ok-answer_by-clause-answered
-returns-in-Ok-answer_by-clause-answered g c past set h holds same =
+pub returns-clause-answered : goal.returns-clause-answered
+returns-clause-answered g c past set h holds same =
     let store = c.args.store.now in
     let registry = c.args.registry.now in
     let ask = c.args.ask.now in
     let floor = c.floor-floor.result in
-    let kept = c.in-Ok.kept in
+    let kept = c.in_ok-kept.kept in
     let beats = tier_beats h in
     let has = applied-all past store set h holds in
     let floor_is = c.floor-floor.ensures.applied set beats has in
     let kept_is : kept ≡ take 64 (filter (is_above (from_of floor ask.last)) (kept_of set beats).beats) =
-    subst (λ (from : ℕ). kept ≡ take 64 (filter (is_above from) (kept_of set beats).beats)) c.from_of.ensures (c.in-Ok.ensures.kept set beats has) in
+    subst (λ (from : ℕ). kept ≡ take 64 (filter (is_above from) (kept_of set beats).beats)) c.from_of.ensures (c.in_ok-kept.ensures.kept set beats has) in
     let sendable = found-sendable past store set h holds ask registry same floor floor_is kept kept_is in
-    answer-is past store set h holds ask registry same floor floor_is kept kept_is c.in-Ok-answer_by.answer
-    (c.in-Ok-answer_by.ensures.answered sendable ∙ ap (λ (id : ℕ). data_of id floor (names_of registry) (map sent_beat kept) ask) (ap (λ (set : Settings). set.id) c.settings.ensures))
+    answer-is past store set h holds ask registry same floor floor_is kept kept_is c.in_ok-answer_by.field-0
+    (c.in_ok-answer_by.ensures.answered sendable ∙ ap (λ (id : ℕ). data_of id floor (names_of registry) (map sent_beat kept) ask) (ap (λ (set : Settings). set.id) c.settings.ensures))
 
 pub answer_by-requires-clause-rises : goal.answer_by-requires-clause-rises
-answer_by-requires-clause-rises g c = rise-lower 0 c.from_of.result c.in-Ok.kept (omega arith) c.in-Ok.ensures.rises
+answer_by-requires-clause-rises g c = rise-lower 0 c.from_of.result c.in_ok-kept.kept (omega arith) c.in_ok-kept.ensures.rises

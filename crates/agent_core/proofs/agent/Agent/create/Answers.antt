@@ -17,8 +17,8 @@ returns-in_err-side g c =
     let error = err_from_is_err_and c.from_residual-in_err-side.result c.from_residual-in_err-side.ensures.1 in
     rw (error.1, error.2, c.in_err-side.ensures.memory) (not-made g.H.Host.honest (g.H.Host.seen c.args.host.now) c.args.settings.now)
 
-pub returns-in-Ok : goal.returns-in-Ok
-returns-in-Ok g c =
+pub returns : goal.returns
+returns g c =
     let set = c.args.settings.now in
     let side = c.in_ok-side.side in
     let old = (g.H.Host.seen c.args.host.now).past in
@@ -28,60 +28,61 @@ returns-in-Ok g c =
     let is = c.in_ok-side.ensures.side set [] [] tt left (floor-none set) in
     record {
       any_moment = λ true_host. new_climbs set side c.requires is old new (c.create.ensures.any_moment true_host);
-      created = λ true_host. new_is_of set side c.requires is new c.in-Ok.store _ (c.in-Ok.ensures.created true_host) left refl refl refl refl;
+      created = λ true_host. new_is_of set side c.requires is new c.in_ok-store.store _ (c.in_ok-store.ensures.created true_host) left refl refl refl refl;
       ready = λ going. record {
-        store = c.in-Ok.ensures.ready;
-        replayed = c.in-Ok.ensures.replayed;
-        going = c.in-Ok.ensures.going;
-        same_last = c.in-Ok.ensures.last;
+        store = c.in_ok-store.ensures.ready;
+        replayed = c.in_ok-store.ensures.replayed;
+        going = c.in_ok-store.ensures.going;
+        same_last = c.in_ok-store.ensures.last;
         up_to = fit.up_to;
         charts = fit.charts;
         dimensions = fit.dimensions;
         limits = fit.limits;
       };
-      new = record { id = ap (λ (s : Settings). s.id) c.in-Ok.ensures.settings; count = refl; last_is = refl; going = refl };
+      new = record { id = ap (λ (s : Settings). s.id) c.in_ok-store.ensures.settings; count = refl; last_is = refl; going = refl };
       exists = λ told. absurd cc;
-      none = c.in-Ok.ensures.none;
-      made = λ true_host made. absurd (true≢false (sym made ∙ c.in-Ok.ensures.none true_host));
+      none = c.in_ok-store.ensures.none;
+      made = λ true_host made. absurd (true≢false (sym made ∙ c.in_ok-store.ensures.none true_host));
       made_moment = c.create.ensures.made_moment;
       memory = λ told. absurd cc;
       memory_moment = λ told. absurd cc;
       faults = tt;
-      cause = done-cause _ _ c.create.result c.in-Ok.store _ c.in-Ok.is c.create.ensures.cause;
+      cause = done-cause _ _ c.create.result c.in_ok-store.store _ c.in_ok-store.was c.create.ensures.cause;
       bound = λ limit fits. c.create.ensures.bound limit (new-short set c.in_ok-left.left 0 left side c.in_ok-side.ensures.size limit fits);
       only_here = c.create.ensures.only_here;
       tells = c.create.ensures.output;
     }
 
-pub returns-in-Err : goal.returns-in-Err
-returns-in-Err g c =
+pub returns-in_err-store : goal.returns-in_err-store
+returns-in_err-store g c =
     let set = c.args.settings.now in
     let side = c.in_ok-side.side in
     let old = (g.H.Host.seen c.args.host.now).past in
     let new = (g.H.Host.seen c.create.new.host).past in
     let left = c.in_ok-left.ensures.left set in
     let is = c.in_ok-side.ensures.side set [] [] tt left (floor-none set) in
-    let fault = c.in-Err.fault in
-    let told = c.from.result in
-    let says = c.from.ensures in
-    record {
+    let fault = c.in_err-store.field-0.0 in
+    let error = err_from_is_err_and c.from_residual-in_err-store.result c.from_residual-in_err-store.ensures.1 in
+    let told = error.0 in
+    let says = error.2 in
+    rw error.1 (record {
       any_moment = λ true_host. new_climbs set side c.requires is old new (c.create.ensures.any_moment true_host);
       created = tt;
       ready = tt;
       new = tt;
-      exists = λ e. c.create.ensures.exists (made-exists c.create.result fault told c.in-Err.is says e);
+      exists = λ e. c.create.ensures.exists (made-exists c.create.result fault told c.in_err-store.was says e);
       none = tt;
       made = λ true_host made.
           let found = c.create.ensures.made true_host made in
-          (made-told c.create.result fault told c.in-Err.is says found.0, before-at_end old new found.1 (c.create.ensures.made_moment true_host made));
+          (made-told c.create.result fault told c.in_err-store.was says found.0, before-at_end old new found.1 (c.create.ensures.made_moment true_host made));
       made_moment = c.create.ensures.made_moment;
       memory = λ e true_host.
-          let short = made-memory c.create.result fault told c.in-Err.is says e in
+          let short = made-memory c.create.result fault told c.in_err-store.was says e in
           record { same = c.create.ensures.memory short true_host; disks = at_end (c.create.ensures.memory_moment short true_host) };
-      memory_moment = λ e. c.create.ensures.memory_moment (made-memory c.create.result fault told c.in-Err.is says e);
-      faults = made-faults fault told says c.in-Err.ensures.faults;
-      cause = made-cause _ _ c.create.result fault told c.in-Err.is says c.create.ensures.cause;
+      memory_moment = λ e. c.create.ensures.memory_moment (made-memory c.create.result fault told c.in_err-store.was says e);
+      faults = made-faults fault told says c.in_err-store.ensures.faults;
+      cause = made-cause _ _ c.create.result fault told c.in_err-store.was says c.create.ensures.cause;
       bound = λ limit fits. c.create.ensures.bound limit (new-short set c.in_ok-left.left 0 left side c.in_ok-side.ensures.size limit fits);
       only_here = c.create.ensures.only_here;
       tells = c.create.ensures.output;
-    }
+    })

@@ -1,0 +1,23 @@
+use Rattle.std.proofs.Common.{sym, subst}
+use Rattle.host_model.specs.Seen.{Seen}
+use Rattle.agent_core.specs.Agent.{AgentIsReady}
+use Rattle.agent_core.proofs.ReadCalls.{read-done, read-short}
+use Rattle.agent_core.proofs.StoredLemmas.{applied-all}
+use Rattle.agent_core.proofs.agent.Agent.query.Goals as goal
+
+pub returns-in-Ok : goal.returns-in-Ok
+returns-in-Ok g c =
+    let host : Seen = g.H.Host.seen c.args.host.now in
+    let ready = subst (AgentIsReady g.H.Host.honest host.past) (sym c.self.view_is) c.requires in
+    rw (c.reply.ensures.store, c.reply.ensures.host, ← c.self.view_is) (record {
+      answered = λ set h is_of. c.in-Ok.ensures.answered set h (applied-all host.past _ set h is_of.holds) is_of.left_by.registry_is;
+      reads = read-done g.H.Host.honest host _ c.in_default.is c.in-Ok.reply ready;
+    })
+
+pub returns-in-Err : goal.returns-in-Err
+returns-in-Err g c =
+    let host : Seen = g.H.Host.seen c.args.host.now in
+    rw (c.reply.ensures.store, c.reply.ensures.host, c.cause-self-inside.ensures, c.in-Err.ensures.memory, ← c.self.view_is) (record {
+      answered = tt;
+      reads = read-short g.H.Host.honest host _ c.in_default.is;
+    })
