@@ -1,5 +1,6 @@
 -- What is left of an agent by the calls that it makes on its store.
-use Rattle.std.proofs.Common.{◌≡◌, ℕ, inl, inr, List, Option, Some, None, Result, Ok, Err, IfErr, IsErrOf, OnOk, refl, sym, ap, ◌∙◌, subst, arith}
+use Rattle.std.proofs.Common.{◌≡◌, ℕ, inl, inr, ◌<◌, ◌≤◌, List, Option, Some, None, Result, Ok, Err, IfErr, IfSome, IsErrOf, OnOk, refl, sym, ap, ◌∙◌, subst, arith}
+use Rattle.std.specs.Option.{IsSomeAnd}
 use Rattle.std.proofs.lemmas.Option.{none-some}
 use Rattle.host_model.specs.Cause.{HasCause, Rose}
 use Rattle.host_model.specs.Past.{Event}
@@ -17,7 +18,7 @@ use Rattle.store_core.specs.declared.fault.StoreFault.TheVariants as store
 use Rattle.store_core.specs.declared.fault.Why.{Why}
 use Rattle.store_core.specs.declared.fault.Why.TheVariants as why
 use Rattle.store_core.specs.Counts.{raised}
-use Rattle.store_core.specs.Faults.{IsCheckpointFault, ReopensWith as StoreReopensWith}
+use Rattle.store_core.specs.Faults.{IsCheckpointFault, IsCommitFault, ReopensWith as StoreReopensWith}
 use Rattle.store_core.specs.Store.{IsReady, IsReplayed, StoreState}
 use Rattle.agent_core.specs.declared.fault.AgentFault.{AgentFault}
 use Rattle.agent_core.specs.declared.fault.AgentFault.TheVariants.{Refused, Health, DiskFault, NotADatabase, Damaged, Reopen, Exists, Memory}
@@ -106,6 +107,17 @@ checkpoint-failed honest host host' old new fault given is fails reopens going r
   only_here = only_here;
   tells = tells;
 }
+
+-- a beat whose moment is later is refused as a checkpoint is
+pub commit-fails : (last : ℕ) (fault : StoreFault) → IsCommitFault last fault → (fault ≡ store.MomentOrder last → ⊥) → IsCheckpointFault fault
+commit-fails last fault (inl failed) never = inl failed
+commit-fails last fault (inr (inl order)) never = absurd (never order)
+commit-fails last fault (inr (inr (inl full))) never = inr (inl full)
+commit-fails last fault (inr (inr (inr again))) never = inr (inr again)
+
+pub never-before : (moment : Option ℕ) (last : ℕ) → IfSome moment (λ moment. last < moment) → IsSomeAnd moment (λ moment. moment ≤ last) → ⊥
+never-before None last later before = before
+never-before (Some moment) last later before = omega (arith, later, before)
 
 -- a fault that spends an agent leaves its cause
 pub spent-never : (fault : AgentFault) → IsSpending fault → cause_of fault ≡ None → ⊥
