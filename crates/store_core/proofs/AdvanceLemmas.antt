@@ -202,12 +202,12 @@ advance-ready honest old later store side next new files ready goes replayed goi
     record {
       place = subst IsPlaced (sym is) (record { file = refl; generation = refl });
       is = inl (record {
-            whole = was.whole;
-            kept = next_pages store.body next new was.kept;
-            stored = moved_on was.stored side;
-            sound = advance-sound was.kept was.stored store was.sound numbered replayed side next new made files (ap (λ (f : FilesState). f.number) is);
-            opened = λ still h. advance-open was.kept was.stored store was.sound numbered replayed side next new made old later files (was.opened going h) (done h);
-          });
+        whole = was.whole;
+        kept = next_pages store.body next new was.kept;
+        stored = moved_on was.stored side;
+        sound = advance-sound was.kept was.stored store was.sound numbered replayed side next new made files (ap (λ (f : FilesState). f.number) is);
+        opened = λ still h. advance-open was.kept was.stored store was.sound numbered replayed side next new made old later files (was.opened going h) (done h);
+      });
     }
 
 -- the tiers of a store are sound

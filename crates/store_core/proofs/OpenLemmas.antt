@@ -173,11 +173,11 @@ pub left-ready : (honest : Type 0) (new : List Event) (store : StoreState) (last
 left-ready honest new store last records broken sound same read bytes ready = record {
   place = ready.place;
   is = inr (record {
-        broken = broken;
-        tiers = sound;
-        waiting = subst (λ (n : ℕ). AreNext n store.waiting) (sym same) (are-read last records store.waiting bytes read).next;
-        opened = λ going h. ready.journal h;
-      });
+    broken = broken;
+    tiers = sound;
+    waiting = subst (λ (n : ℕ). AreNext n store.waiting) (sym same) (are-read last records store.waiting bytes read).next;
+    opened = λ going h. ready.journal h;
+  });
 }
 
 pub left-form : (body : Body) (beats : List Beat) (number : ℕ) (records : List (List ℕ)) (disk : File → List ℕ) → HasFiles number body records disk

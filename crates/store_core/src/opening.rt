@@ -30,8 +30,8 @@ ghost use Rattle.store_core.specs.Stored.{Stored as AStored};
 
 use crate::beats::{Waiting, read_beats};
 use crate::bodies::{left_tiers, tiers_of};
-use crate::disk::{Left, Opened};
 use crate::disk::fault::{BODY_PART, EXTENT_PART, JOURNAL_PART};
+use crate::disk::{Left, Opened};
 use crate::fault::{StoreFault, of_files};
 use crate::store::Store;
 use beat_tiers::Tiers;
@@ -71,11 +71,7 @@ fn read_tiers(alloc: Global, opened: &Opened) -> Result<Tiers, StoreFault>
 }
 
 /// The beats of the records of a journal, behind a checkpoint with this last moment.
-fn read_waiting(
-    alloc: Global,
-    last: u32,
-    records: &[ByteList],
-) -> Result<Waiting, StoreFault>
+fn read_waiting(alloc: Global, last: u32, records: &[ByteList]) -> Result<Waiting, StoreFault>
     ensures beats { IfOk result (λ found. beats_from last records.now ≡ Some found) }
     ensures bytes { OnOk result (AllByRecursion IsBytes records.now) }
     ensures damaged { (part : ℕ) → IsErrOf result (StoreFault.Damaged part)
