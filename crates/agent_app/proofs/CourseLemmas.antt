@@ -22,6 +22,7 @@ use Rattle.store_core.proofs.StandLemmas.{stands-made}
 use Rattle.agent_core.specs.Stands.{StandsForHistory, StandsForNew}
 use Rattle.agent_core.specs.Calls.{ReadsAsBefore}
 use Rattle.agent_core.specs.Notes.{NotesGo}
+use Rattle.agent_core.proofs.NoteLemmas.{notes-made}
 use Rattle.link_session.specs.declared.fault.SessionFault.TheVariants.{Memory}
 use Rattle.link_session.specs.Keeps.{no_more, IsAckedUpTo, Keeps}
 use Rattle.link_session.specs.Parent.{done_with, parent_begins, parent_does}
@@ -214,7 +215,7 @@ module _ (starts : List (Option Database)) (tried : List Settings) (runs : List 
   -- ---- there was no database
   module _ (unmade : is_made (reads_as host.past) ≡ false) where
     found : IsHostAsFound honest host host' × GivesNothing input
-    found = all.found h (λ notes. true≢false (sym (stands-made notes.stored (reads_as host.past) notes.stands) ∙ unmade))
+    found = all.found h (λ notes. true≢false (sym (notes-made true (reads_as host.past) notes) ∙ unmade))
 
     not-opened : (t : Status) → Some s ≡ Some t → is_opened t ≡ false
     not-opened t is = by (all.unmade h unmade)

@@ -71,6 +71,7 @@ module _ (honest : Type 0) (host : Seen) (first : honest → IsDisk host.past (r
     some = tt;
     damaged = λ part low e h. absurd (no-part part (fault-is fault.Memory (fault.Damaged part) e));
     parts = λ part low e h. absurd (no-part part (fault-is fault.Memory (fault.Damaged part) e));
+    whole = tt;
     made = λ part e h. absurd (no-part part (fault-is fault.Memory (fault.Damaged part) e));
     notes = tt;
     first = λ part other e h. absurd (no-part part (fault-is fault.Memory (fault.Damaged part) e));

@@ -222,16 +222,15 @@ pub record Finds (honest : Type 0) (status : Status) (host : Seen) : Type 0 wher
   pub unmade : honest → is_made (reads_as host.past) ≡ false → (status ≡ NotADatabase) ⊎ (status ≡ DiskFault) ⊎ (status ≡ Memory)
   -- and a database that stands for a history is never damaged
   pub damaged : (part : ℕ) → status ≡ Damaged part → honest → (set : Settings) (h : List Beat) → StandsForHistory set h (reads_as host.past) → ⊥
-  -- Damaged says which part: 1 to 4 where there is a database, and it is that of no base and beats. Of these 1 is the
-  -- checkpoint's file, 2 its body and 3 an extent; 4 is the journal, where a record is no beat that may follow. 5 where
-  -- the side is not good, a note does not go on, or a point is of no series that is there. Where a part of the files is
-  -- damaged, its number is told. A disk holds one database at most, so that IsDamaged and NotesGo true exclude each
-  -- other. So where there is a database, and neither the disk nor memory fails, the status is Damaged exactly where
-  -- NotesGo true does not hold.
+  -- Damaged says which part. 1 to 4 where there is a database, and it is in no form: 1 is the checkpoint's file, 2 its
+  -- body, 3 an extent and 4 the journal, and the first that is damaged is told. 5 where all of these are in form, and the
+  -- side is not good, a note does not go on, or a point is of no series that is there. What the pages of the extents hold
+  -- is not asked. A disk has one form at most, so that IsDamaged and NotesGo true exclude each other. So where there is a
+  -- database, and neither the disk nor memory fails, the status is Damaged exactly where NotesGo true does not hold.
   pub parts : (part : ℕ) → status ≡ Damaged part → (1 ≤ part) × (part ≤ 5)
   pub made : (part : ℕ) → status ≡ Damaged part → honest → is_made (reads_as host.past) ≡ true
   pub damaged_files : (part : ℕ) → part ≤ 4 → status ≡ Damaged part → honest → IsDamaged (reads_as host.past)
-  pub damaged_part : (part : ℕ) → part ≤ 3 → status ≡ Damaged part → honest → IsDamagedIn part (reads_as host.past)
+  pub damaged_part : (part : ℕ) → part ≤ 4 → status ≡ Damaged part → honest → IsDamagedIn part (reads_as host.past)
   pub damaged_first : (part other : ℕ) → status ≡ Damaged part → honest → IsDamagedIn other (reads_as host.past) → other ≡ part
   pub damaged_notes : status ≡ Damaged 5 → honest → NotesGo true (reads_as host.past) → ⊥
   pub opened : is_opened status ≡ true → honest → NotesGo true (reads_as host.past)

@@ -1,5 +1,5 @@
 -- The files of a database stay within their shares, call after call.
-use Rattle.std.proofs.Common.{◌≡◌, inl, inr, ℕ, ◌≤◌, Bool, true, false, cond, nat_lt, List, [], length, sym, ap, ◌∙◌, subst, arith, le_refl}
+use Rattle.std.proofs.Common.{◌≡◌, inl, inr, ℕ, ◌≤◌, Bool, ◌&&◌, true, false, cond, nat_lt, List, [], length, sym, ap, ◌∙◌, subst, arith, le_refl}
 use Rattle.std.proofs.lemmas.Bool.{lt-ltb, ltb-true}
 use Rattle.host_model.specs.Disks.{EveryDisk}
 use Rattle.host_model.specs.Past.{Event}
@@ -14,7 +14,7 @@ use Rattle.tier_settings.specs.declared.settings.Settings.{Settings}
 use Rattle.store_core.specs.declared.beats.beat.Beat.{Beat as StoreBeat}
 use Rattle.store_core.specs.disk.Shares.{share, IsWithin}
 use Rattle.store_core.specs.Stands.{StandsAround, StandsEither}
-use Rattle.store_core.specs.Store.{IsStoreOf, StoreState}
+use Rattle.store_core.specs.Store.{can_advance, IsStoreOf, StoreState}
 use Rattle.store_core.specs.Stored.{advanced, is_numbered, next_base, stored_with, Stored}
 use Rattle.store_core.proofs.AdvanceLemmas.{same-number}
 use Rattle.store_core.proofs.StandLemmas.{images-at}
@@ -106,14 +106,14 @@ module _ (past past' : List Event) (store store' : StoreState) (set : Settings) 
   module _ {honest : Type 0} (true_host : honest) (limit : ℕ) where
     -- a beat was added, or was refused
     pub commit-grows : store'.files.number ≡ store.files.number → EveryDisk (HasReached store'.files.number) past'
-        → ((side : ℕ) → is_numbered store.files.number ≡ true → honest → IsWithin (share store.body.settings side) past → Throughout (IsWithin (share store.body.settings side)) past past')
+        → ((side : ℕ) → can_advance store ≡ true → honest → IsWithin (share store.body.settings side) past → Throughout (IsWithin (share store.body.settings side)) past past')
         → GrowsWithin set limit past store past' store'
     commit-grows same reached bound = record {
       number = omega (arith, same);
       reached = λ _. reached;
       moments = λ numbered.
           subst (λ (s : Settings). IsWithin (share s limit) past → Throughout (IsWithin (share s limit)) past past') (settings-of past store set h holds)
-          (bound limit (ap is_numbered (sym same) ∙ numbered) true_host);
+          (bound limit (ap (λ (whole : Bool). whole && is_numbered store.files.number) holds.store_of.whole ∙ ap is_numbered (sym same) ∙ numbered) true_host);
     }
 
     -- a checkpoint was made, or was refused

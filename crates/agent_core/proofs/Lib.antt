@@ -38,7 +38,6 @@ pub mod Outcomes
 pub mod PlaceLemmas
 pub mod PointLemmas
 pub mod ReadCalls
-pub mod ReadyLemmas
 pub mod ReplayLemmas
 pub mod ReplyLemmas
 pub mod RunLemmas

@@ -1,16 +1,18 @@
 -- What the notes of kept beats leave as they are replayed, of whatever history they are.
 use Rattle.std.proofs.Common.{◌≡◌, ℕ, Bool, true, false, ◌&&◌, List, [], ◌∷◌, Option, Some, None, Ok, refl, sym, ap, ◌∙◌, true≢false, if◌then◌else◌}
-use Rattle.std.specs.Option.{option_map, option_map_or}
+use Rattle.std.specs.Option.{is_some, option_map, option_map_or}
 use Rattle.host_model.specs.declared.file.File.{File}
-use Rattle.host_model.specs.Past.{Event}
+use Rattle.checkpoint_body.specs.declared.body.Body.{Body}
 use Rattle.entry_codec.specs.declared.entry.Entry.{Entry}
 use Rattle.entry_codec.specs.Entries.{read_entry}
 use Rattle.chart_registry.proofs.Steps.{number-yes}
 use Rattle.store_core.specs.declared.beats.beat.Beat.{Beat as StoreBeat}
-use Rattle.store_core.specs.Stands.{Stands}
-use Rattle.store_core.specs.Store.{base_of, IsReplayed, IsStoreAt, OpensAt, Replays, StoreState}
-use Rattle.store_core.specs.Stored.{stored_with, stored_with_all, Stored}
-use Rattle.store_core.proofs.StandLemmas.{stands-once}
+use Rattle.store_core.specs.beats.Records.{with_all}
+use Rattle.store_core.specs.Damaged.{HasForm}
+use Rattle.store_core.specs.Stands.{is_made}
+use Rattle.store_core.specs.Store.{IsReplayed, StoreState}
+use Rattle.store_core.proofs.DamageLemmas.{one-form}
+use Rattle.store_core.proofs.StandLemmas.{is-made}
 use Rattle.agent_core.specs.declared.left.Left.{Left}
 use Rattle.agent_core.specs.Notes.{beats_go_on, entry_at, entry_goes_on, entry_in, left_after, left_by, moment_of, names_series, noted_in, noted_in_side, notes_go_on, same_moment, takes_note, with_entry, with_note, NotesGo, Noted}
 use Rattle.agent_core.specs.Replay.{HasTaken}
@@ -51,14 +53,14 @@ module _ (left : Noted) (kept : StoreBeat) (found : Entry) (has : entry_in kept 
       ap (λ (b : Bool). b && names_series (with_note left kept).registry kept.points) (goes-as true goes)
       ∙ ap (λ (l : Noted). names_series l.registry kept.points) (sym (note-left left' made)) ∙ e
 
--- ---- what is stored
+-- ---- the beats
 
 module _ (start : Noted) where
   -- where a note does not go on, those that come later do not mend it
-  never : (stored : Stored) (rest : List StoreBeat) → beats_go_on start stored.after ≡ false → beats_go_on start (stored_with_all stored rest).after ≡ false
+  never : (beats rest : List StoreBeat) → beats_go_on start beats ≡ false → beats_go_on start (with_all beats rest) ≡ false
   unfolding beats_go_on
-  never stored [] e = e
-  never stored (next ∷ rest) e = never (stored_with stored next) rest (ap (λ (b : Bool). b && takes_note (left_after start stored.after) next) e)
+  never beats [] e = e
+  never beats (next ∷ rest) e = never (next ∷ beats) rest (ap (λ (b : Bool). b && takes_note (left_after start beats) next) e)
 
   pub go-on-more : (left : Noted) (beats : List StoreBeat) (kept : StoreBeat) (goes : Bool) → beats_go_on start beats ≡ true → left ≡ left_after start beats → takes_note left kept ≡ goes → beats_go_on start (kept ∷ beats) ≡ goes
   unfolding beats_go_on
@@ -79,96 +81,76 @@ module _ (start : Noted) where
 
   -- ---- a store that replays
 
-  pub taken-begins : (past : List Event) (store : StoreState) (left : Left) (stored : Stored) → OpensAt past store stored → noted_in left ≡ start → HasTaken start past store left stored
-  taken-begins past store left stored opens is = record {
-    applied = base_of stored;
-    rest = opens.rest;
-    whole = opens.whole;
-    is_at = opens.is_at;
-    go_on = go-on-none;
-    left_is = is ∙ sym left-none;
-  }
+  pub taken-begins : (store : StoreState) (left : Left) → noted_in left ≡ start → HasTaken start store.waiting store left
+  taken-begins store left is = record { applied = []; whole = refl; go_on = go-on-none; left_is = is ∙ sym left-none }
 
-  module _ (past : List Event) (store store' : StoreState) (left : Left) (stored : Stored) where
-    module _ (kept : StoreBeat) where
-      step-more : (left' : Left) (applied : Stored) (rest : List StoreBeat) → stored_with_all applied rest ≡ stored → Replays past store' applied rest (Some kept) → beats_go_on start applied.after ≡ true
-          → noted_in left ≡ left_after start applied.after → noted_in left' ≡ with_note (noted_in left) kept → takes_note (noted_in left) kept ≡ true → HasTaken start past store' left' stored
-      step-more left' applied [] whole replays go_on is made takes = absurd replays
-      step-more left' applied (first ∷ rest) whole replays go_on is made takes = record {
-        applied = stored_with applied kept;
-        rest = rest;
-        whole = ap (λ (next : StoreBeat). stored_with_all (stored_with applied next) rest) replays.0 ∙ whole;
-        is_at = replays.1;
-        go_on = go-on-more (noted_in left) applied.after kept true go_on is takes;
-        left_is = left-more (noted_in left) (noted_in left') applied.after kept is made;
+  module _ (beats : List StoreBeat) (store store' : StoreState) (left : Left) (was : HasTaken start beats store left) where
+    module _ (kept : StoreBeat) (takes : store.waiting ≡ kept ∷ store'.waiting) where
+      with-more : with_all (kept ∷ was.applied) store'.waiting ≡ with_all [] beats
+      with-more = sym (ap (λ (rest : List StoreBeat). with_all was.applied rest) takes) ∙ was.whole
+
+      pub taken-more : (left' : Left) → noted_in left' ≡ with_note (noted_in left) kept → takes_note (noted_in left) kept ≡ true → HasTaken start beats store' left'
+      taken-more left' made goes = record {
+        applied = kept ∷ was.applied;
+        whole = with-more;
+        go_on = go-on-more (noted_in left) was.applied kept true was.go_on was.left_is goes;
+        left_is = left-more (noted_in left) (noted_in left') was.applied kept was.left_is made;
       }
 
-      step-broken : (applied : Stored) (rest : List StoreBeat) → stored_with_all applied rest ≡ stored → Replays past store' applied rest (Some kept) → beats_go_on start applied.after ≡ true
-          → noted_in left ≡ left_after start applied.after → takes_note (noted_in left) kept ≡ false → beats_go_on start stored.after ≡ false
-      step-broken applied [] whole replays go_on is stops = absurd replays
-      step-broken applied (first ∷ rest) whole replays go_on is stops =
-          ap (λ (s : Stored). beats_go_on start s.after) (sym (ap (λ (next : StoreBeat). stored_with_all (stored_with applied next) rest) replays.0 ∙ whole))
-          ∙ never (stored_with applied kept) rest (go-on-more (noted_in left) applied.after kept false go_on is stops)
+      pub taken-broken : takes_note (noted_in left) kept ≡ false → beats_go_on start (with_all [] beats) ≡ false
+      taken-broken stops =
+          ap (λ (all : List StoreBeat). beats_go_on start all) (sym with-more)
+          ∙ never (kept ∷ was.applied) store'.waiting (go-on-more (noted_in left) was.applied kept false was.go_on was.left_is stops)
 
-      pub taken-more : (left' : Left) → HasTaken start past store left stored
-          → ((applied : Stored) (rest : List StoreBeat) → IsStoreAt past store applied rest → Replays past store' applied rest (Some kept))
-          → noted_in left' ≡ with_note (noted_in left) kept → takes_note (noted_in left) kept ≡ true → HasTaken start past store' left' stored
-      taken-more left' was replays made takes = step-more left' was.applied was.rest was.whole (replays was.applied was.rest was.is_at) was.go_on was.left_is made takes
-
-      pub taken-broken : HasTaken start past store left stored
-          → ((applied : Stored) (rest : List StoreBeat) → IsStoreAt past store applied rest → Replays past store' applied rest (Some kept))
-          → takes_note (noted_in left) kept ≡ false → beats_go_on start stored.after ≡ false
-      taken-broken was replays stops = step-broken was.applied was.rest was.whole (replays was.applied was.rest was.is_at) was.go_on was.left_is stops
-
-    none-left : (applied : Stored) (rest : List StoreBeat) → Replays past store' applied rest None → IsStoreAt past store' applied rest
-    none-left applied [] replays = replays
-    none-left applied (first ∷ rest) replays = absurd replays
-
-    pub taken-same : HasTaken start past store left stored → ((applied : Stored) (rest : List StoreBeat) → IsStoreAt past store applied rest → Replays past store' applied rest None)
-        → HasTaken start past store' left stored
-    taken-same was replays = record {
+    -- there was none
+    pub taken-same : (store.waiting ≡ []) × (store'.waiting ≡ []) → HasTaken start beats store' left
+    taken-same none = record {
       applied = was.applied;
-      rest = was.rest;
-      whole = was.whole;
-      is_at = none-left was.applied was.rest (replays was.applied was.rest was.is_at);
+      whole = ap (λ (rest : List StoreBeat). with_all was.applied rest) (none.1 ∙ sym none.0) ∙ was.whole;
       go_on = was.go_on;
       left_is = was.left_is;
     }
 
-  -- at the end all notes have gone on
-  pub taken-all : (past : List Event) (store : StoreState) (left : Left) (stored : Stored) → HasTaken start past store left stored → IsReplayed store → beats_go_on start stored.after ≡ true
-  taken-all past store left stored was done =
-      let none : was.rest ≡ [] = sym was.is_at.waiting ∙ done in
-      ap (λ (s : Stored). beats_go_on start s.after) (sym was.whole ∙ ap (stored_with_all was.applied) none) ∙ was.go_on
+  module _ (beats : List StoreBeat) (store : StoreState) (left : Left) (was : HasTaken start beats store left) (done : IsReplayed store) where
+    all-applied : was.applied ≡ with_all [] beats
+    all-applied = sym (ap (λ (rest : List StoreBeat). with_all was.applied rest) done) ∙ was.whole
 
-  -- and this is what they leave
-  pub taken-left : (past : List Event) (store : StoreState) (left : Left) (stored : Stored) → HasTaken start past store left stored → IsReplayed store → noted_in left ≡ left_after start stored.after
-  taken-left past store left stored was done =
-      let none : was.rest ≡ [] = sym was.is_at.waiting ∙ done in
-      was.left_is ∙ ap (λ (s : Stored). left_after start s.after) (sym (ap (stored_with_all was.applied) none) ∙ was.whole)
+    -- at the end all notes have gone on
+    pub taken-all : beats_go_on start (with_all [] beats) ≡ true
+    taken-all = ap (λ (all : List StoreBeat). beats_go_on start all) (sym all-applied) ∙ was.go_on
 
--- ---- what is stored, with its side
+    -- and this is what they leave
+    pub taken-left : noted_in left ≡ left_after start (with_all [] beats)
+    taken-left = was.left_is ∙ ap (λ (all : List StoreBeat). left_after start all) all-applied
+
+-- ---- a side, and the beats since
 
 -- where the side is good, the notes go on just as the beats since do
-pub goes-by : (start : Noted) (stored : Stored) (goes : Bool) → noted_in_side stored.base.side ≡ Some start → beats_go_on start stored.after ≡ goes → notes_go_on stored ≡ goes
-goes-by start stored goes good e = ap (λ (o : Option Noted). option_map_or (λ (s : Noted). beats_go_on s stored.after) o false) good ∙ e
+pub goes-by : (start : Noted) (side : List ℕ) (beats : List StoreBeat) (goes : Bool) → noted_in_side side ≡ Some start → beats_go_on start (with_all [] beats) ≡ goes → notes_go_on side beats ≡ goes
+goes-by start side beats goes good e = ap (λ (o : Option Noted). option_map_or (λ (s : Noted). beats_go_on s (with_all [] beats)) o false) good ∙ e
 
 -- and they leave what those leave
-pub left-is : (start left : Noted) (stored : Stored) → noted_in_side stored.base.side ≡ Some start → left ≡ left_after start stored.after → left_by stored ≡ Some left
-left-is start left stored good e =
-    ap (λ (o : Option Noted). option_map (λ (s : Noted). left_after s stored.after) o) good ∙ ap (λ (l : Noted). Some l) (sym e)
+pub left-is : (start left : Noted) (side : List ℕ) (beats : List StoreBeat) → noted_in_side side ≡ Some start → left ≡ left_after start (with_all [] beats) → left_by side beats ≡ Some left
+left-is start left side beats good e =
+    ap (λ (o : Option Noted). option_map (λ (s : Noted). left_after s (with_all [] beats)) o) good ∙ ap (λ (l : Noted). Some l) (sym e)
 
 -- and else they do not go on
-pub never-good : (stored : Stored) → noted_in_side stored.base.side ≡ None → notes_go_on stored ≡ false
-never-good stored bad = ap (λ (o : Option Noted). option_map_or (λ (s : Noted). beats_go_on s stored.after) o false) bad
+pub never-good : (side : List ℕ) (beats : List StoreBeat) → noted_in_side side ≡ None → notes_go_on side beats ≡ false
+never-good side beats bad = ap (λ (o : Option Noted). option_map_or (λ (s : Noted). beats_go_on s (with_all [] beats)) o false) bad
 
 -- ---- a disk
 
--- what is stored does not go on where a store that was opened on the disk tells so
-pub never-notes : (disk : File → List ℕ) (past : List Event) (store : StoreState) → ((stored : Stored) → Stands stored disk → OpensAt past store stored)
-    → ((past : List Event) (stored : Stored) → OpensAt past store stored → notes_go_on stored ≡ false) → NotesGo true disk → ⊥
-never-notes disk past store opens stops notes = true≢false (sym notes.notes ∙ stops past notes.stored (opens notes.stored notes.stands))
-
--- a disk holds one database at most
+-- a disk has one form at most
 pub notes-once : (disk : File → List ℕ) → NotesGo true disk → NotesGo false disk → ⊥
-notes-once disk go stop = true≢false (sym go.notes ∙ ap notes_go_on (stands-once go.stored stop.stored disk go.stands stop.stands) ∙ stop.notes)
+notes-once disk go stop =
+    let one = one-form go.body stop.body go.beats stop.beats disk go.form stop.form in
+    true≢false
+    (sym go.notes ∙ ap (λ (b : Body). notes_go_on b.side go.beats) one.0 ∙ ap (λ (beats : List StoreBeat). notes_go_on stop.body.side beats) one.1 ∙ stop.notes)
+
+-- so its notes do not go on where those of its form do not
+pub never-notes : (disk : File → List ℕ) (body : Body) (beats : List StoreBeat) → HasForm body beats disk → notes_go_on body.side beats ≡ false → NotesGo true disk → ⊥
+never-notes disk body beats form stops notes = notes-once disk notes (record { body = body; beats = beats; form = form; notes = stops })
+
+-- there is a database on it
+pub notes-made : (goes : Bool) (disk : File → List ℕ) → NotesGo goes disk → is_made disk ≡ true
+notes-made goes disk notes = is-made disk ∙ ap is_some notes.form.files.checkpoint.checkpoint

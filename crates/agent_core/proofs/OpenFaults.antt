@@ -18,7 +18,8 @@ use Rattle.store_core.specs.declared.fault.StoreFault.{StoreFault}
 use Rattle.store_core.specs.declared.fault.StoreFault.TheVariants as store
 use Rattle.store_core.specs.declared.fault.Why.{Why}
 use Rattle.store_core.specs.Faults.{IsOpenFault, IsReplayFault, ReopensWith}
-use Rattle.store_core.proofs.StandLemmas.{is-made, never-damaged}
+use Rattle.store_core.proofs.DamageLemmas.{form-undamaged}
+use Rattle.store_core.proofs.StandLemmas.{is-made}
 use Rattle.agent_core.specs.declared.fault.AgentFault.{AgentFault}
 use Rattle.agent_core.specs.declared.fault.AgentFault.TheVariants.{Refused, Health, DiskFault, NotADatabase, Damaged, Reopen, Exists, Memory}
 use Rattle.agent_core.specs.Faults.{fault_of, of_alarms, of_entry, of_points, unread, IsOpening, IsUnopened, IsUnreplayed}
@@ -77,30 +78,12 @@ told-by (store.Reopen cause) told of is = ap store_told (sym of)
 told-by store.Exists told of is = ap store_told (sym of)
 told-by store.Memory told of is = ap store_told (sym of)
 
--- ---- why a beat is not replayed, where the store was going
-pub replays-unreplayed : (before : Option Why) (fault : StoreFault) (answer : AgentFault) → before ≡ None → ReopensWith before fault → answer ≡ fault_of fault → IsReplayFault fault
-    → (answer ≡ Memory) ⊎ (answer ≡ Damaged 4)
-replays-unreplayed before fault answer going reopens of (inl e) = inl (is-fault fault store.Memory answer Memory e refl of)
-replays-unreplayed before fault answer going reopens of (inr (inl e)) = inr (is-fault fault (store.Damaged 4) answer (Damaged 4) e refl of)
-replays-unreplayed before fault answer going reopens of (inr (inr again)) =
+-- why a beat is not replayed, where the store was going
+pub replays-memory : (before : Option Why) (fault : StoreFault) (answer : AgentFault) → before ≡ None → ReopensWith before fault → answer ≡ fault_of fault → IsReplayFault fault → answer ≡ Memory
+replays-memory before fault answer going reopens of (inl e) = is-fault fault store.Memory answer Memory e refl of
+replays-memory before fault answer going reopens of (inr again) =
     let earlier : before ≡ Some again.0 = subst (ReopensWith before) again.1 reopens in
     absurd (none-some again.0 (sym going ∙ earlier))
-
--- nor is it damaged, where the store is of beats
-pub replays-memory : (answer : AgentFault) → (answer ≡ Memory) ⊎ (answer ≡ Damaged 4) → (answer ≡ Damaged 4 → ⊥) → answer ≡ Memory
-replays-memory answer (inl memory) whole = memory
-replays-memory answer (inr damaged) whole = absurd (whole damaged)
-
-pub memory-whole : (fault : AgentFault) → fault ≡ Damaged 4 → fault ≡ Memory → ⊥
-memory-whole fault damaged memory = absurd cc
-
-same-part : (one other : ℕ) → Damaged one ≡ Damaged other → one ≡ other
-same-part one other e = cc
-
--- where the side is not read, no beat is damaged
-pub never-four : (fault : AgentFault) → fault ≡ Damaged 4 → (fault ≡ Memory) ⊎ (fault ≡ Damaged 5) → ⊥
-never-four fault damaged (inl memory) = absurd cc
-never-four fault damaged (inr notes) = absurd (omega (arith, same-part 4 5 (sym damaged ∙ notes)))
 
 -- ---- an entry that was not taken
 pub unread-next : (told : EntryRefusal) → unread told ≡ Damaged 5 → told ≡ refusal.NotNext
@@ -145,23 +128,18 @@ alarms-short fault (inr memory) rose = ap of_alarms memory
 
 -- ---- the parts
 
--- a replay says that part 4 or part 5 is damaged
-pub unreplayed-parts : (part : ℕ) → IsUnreplayed (Damaged part) → (part ≡ 4) ⊎ (part ≡ 5)
-unreplayed-parts part (inl e) = absurd cc
-unreplayed-parts part (inr (inl e)) = inl (same-part part 4 e)
-unreplayed-parts part (inr (inr e)) = inr (same-part part 5 e)
+same-part : (one other : ℕ) → Damaged one ≡ Damaged other → one ≡ other
+same-part one other e = cc
 
-pub never-below : (part : ℕ) → part ≤ 3 → IsUnreplayed (Damaged part) → ⊥
-never-below part below is = elim (unreplayed-parts part is) [ inl e ↦ absurd (omega (arith, below, e)) | inr e ↦ absurd (omega (arith, below, e)) ]
-
-pub only-four : (part : ℕ) → part ≤ 4 → IsUnreplayed (Damaged part) → Damaged part ≡ Damaged 4
-only-four part below is = elim (unreplayed-parts part is) [ inl e ↦ ap (λ (n : ℕ). Damaged n) e | inr e ↦ absurd (omega (arith, below, e)) ]
+-- a replay says of no part of the files that it is damaged
+pub never-below : (part : ℕ) → part ≤ 4 → IsUnreplayed (Damaged part) → ⊥
+never-below part below (inl e) = cc
+never-below part below (inr e) = omega (arith, below, same-part part 5 e)
 
 -- a replay never finds no database
 pub never-none : IsUnreplayed NotADatabase → ⊥
 never-none (inl e) = cc
-never-none (inr (inl e)) = cc
-never-none (inr (inr e)) = cc
+never-none (inr e) = cc
 
 -- a store is opened without its notes
 pub no-notes : IsUnopened (Damaged 5) → ⊥
@@ -180,23 +158,21 @@ unopened-opening Memory is = tt
 
 pub unreplayed-opening : (fault : AgentFault) → IsUnreplayed fault → IsOpening fault
 unreplayed-opening fault (inl e) = subst IsOpening (sym e) tt
-unreplayed-opening fault (inr (inl e)) = subst IsOpening (sym e) (omega arith, omega arith)
-unreplayed-opening fault (inr (inr e)) = subst IsOpening (sym e) (omega arith, omega arith)
+unreplayed-opening fault (inr e) = subst IsOpening (sym e) (omega arith, omega arith)
 
 -- ---- damage
 
 -- what is damaged was made
 pub damaged-made : (part : ℕ) (disk : File → List ℕ) → IsDamagedIn part disk → is_made disk ≡ true
-damaged-made zero disk (inl damaged) = absurd damaged
-damaged-made (suc zero) disk (inl damaged) = is-made disk ∙ ap is_some damaged.ends.early
-damaged-made (suc (suc zero)) disk (inl damaged) = is-made disk ∙ ap is_some damaged.checkpoint
-damaged-made (suc (suc (suc zero))) disk (inl damaged) = is-made disk ∙ ap is_some damaged.checkpoint.checkpoint
-damaged-made (suc (suc (suc (suc zero)))) disk (inl damaged) = is-made disk ∙ ap is_some damaged.checkpoint.checkpoint
-damaged-made (suc (suc (suc (suc (suc part))))) disk (inl damaged) = absurd damaged
-damaged-made part disk (inr found) = is-made disk ∙ ap is_some found.holds.checkpoint.checkpoint
+damaged-made zero disk damaged = absurd damaged
+damaged-made (suc zero) disk damaged = is-made disk ∙ ap is_some damaged.ends.early
+damaged-made (suc (suc zero)) disk damaged = is-made disk ∙ ap is_some damaged.checkpoint
+damaged-made (suc (suc (suc zero))) disk damaged = is-made disk ∙ ap is_some damaged.checkpoint.checkpoint
+damaged-made (suc (suc (suc (suc zero)))) disk damaged = is-made disk ∙ ap is_some damaged.checkpoint.checkpoint
+damaged-made (suc (suc (suc (suc (suc part))))) disk damaged = absurd damaged
 
 pub damaged-is : (part : ℕ) (disk : File → List ℕ) → IsDamagedIn part disk → IsDamaged disk
-damaged-is part disk damaged = record { made = damaged-made part disk damaged; none_stands = λ stored stands. never-damaged part stored disk stands damaged }
+damaged-is part disk damaged = record { made = damaged-made part disk damaged; no_form = λ body beats form. form-undamaged body beats disk form part damaged }
 
 pub same-fault : {T : Type 0} (a b : AgentFault) (result : Result T AgentFault) → result ≡ Err a → result ≡ Err b → a ≡ b
 same-fault a b result e f = cc
@@ -220,8 +196,7 @@ err-weaker (Err fault) P Q weaker holds = weaker fault holds
 
 never-disk : IsUnreplayed DiskFault → ⊥
 never-disk (inl e) = cc
-never-disk (inr (inl e)) = cc
-never-disk (inr (inr e)) = cc
+never-disk (inr e) = cc
 
 -- it failed the opening exactly where it failed that of the store
 pub told-cause : {T U : Type 0} (old new : ℕ) (result : Result T AgentFault) (fault : AgentFault) → result ≡ failed_with fault → HasCause old new (IsErrOf result DiskFault)

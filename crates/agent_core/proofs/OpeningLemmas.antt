@@ -1,19 +1,19 @@
 -- An agent that replays the beats of its store: where it begins, each step, and where it ends.
 use Rattle.std.proofs.Common.{◌≡◌, ℕ, List, [], ◌∷◌, Some, None, refl, sym, ap, ◌∙◌, subst}
 use Rattle.host_model.specs.declared.file.File.{File}
-use Rattle.host_model.specs.Images.{IsImage}
-use Rattle.host_model.specs.Past.{Event, of}
-use Rattle.host_model.specs.Disks.{reads_as, EveryDisk}
+use Rattle.host_model.specs.Past.{Event}
+use Rattle.host_model.specs.Disks.{EveryDisk}
 use Rattle.history.specs.History.{Beat, last}
 use Rattle.tier_settings.specs.declared.settings.Settings.{Settings}
 use Rattle.checkpoint_body.specs.declared.body.Body.{Body}
 use Rattle.store_core.specs.declared.beats.beat.Beat.{Beat as StoreBeat}
+use Rattle.store_core.specs.Damaged.{HasForm}
 use Rattle.store_core.specs.Stands.{Stands}
 use Rattle.store_core.specs.Store.{base_of, HasApplied, IsReady, IsReplayed, IsStoreAt, OpensAt, Replays, StoreState}
 use Rattle.store_core.specs.Stored.{stored_with, stored_with_all, Stored}
-use Rattle.store_core.proofs.StandLemmas.{images-at, store-of}
+use Rattle.store_core.proofs.DamageLemmas.{one-form}
 use Rattle.agent_core.specs.declared.left.Left.{Left}
-use Rattle.agent_core.specs.Agent.{left_in, AgentIsReady, AgentState, IsAgentOf}
+use Rattle.agent_core.specs.Agent.{left_in, AgentIsReady, AgentState, HasLeft, IsAgentOf}
 use Rattle.agent_core.specs.Answers.{tier_beats}
 use Rattle.agent_core.specs.Kept.{onto, AreBeatsOf, IsBeatOf}
 use Rattle.agent_core.specs.Stands.{HoldsHistory, IsStoredOf, StandsForHistory}
@@ -220,10 +220,9 @@ opened-ready honest past store agent has ready going = record {
   limits = has.limits;
 }
 
--- on an honest host something stands on the disk, as it read before
-pub opened-stands : (honest : Type 0) (old past : List Event) (store : StoreState) → honest → (ready : IsReady honest past store) → store.fault ≡ None → IsReplayed store
-    → ((file : File) → IsImage (of file past) (reads_as past file)) → ((file : File) → reads_as past file ≡ reads_as old file) → Stands ready.stored (reads_as old)
-opened-stands honest old past store h ready going done reads same =
-    let is_of = store-of past ready.kept ready.stored store ready.sound (ready.opened going h) going done in
-    let disks : reads_as past ≡ reads_as old = λ i file. same file i in
-    subst (Stands ready.stored) disks (images-at past store ready.stored [] is_of (reads_as past) reads)
+-- what the notes of the disk leave, which has one form at most
+pub opened-left : (disk : File → List ℕ) (body other : Body) (beats others : List StoreBeat) (agent : AgentState) → HasForm body beats disk → HasForm other others disk
+    → HasLeft body.side beats agent → HasLeft other.side others agent
+opened-left disk body other beats others agent form also left =
+    let one = one-form body other beats others disk form also in
+    subst (λ (b : Body). HasLeft b.side others agent) one.0 (subst (λ (since : List StoreBeat). HasLeft body.side since agent) one.1 left)

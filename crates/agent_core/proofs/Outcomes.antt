@@ -37,11 +37,6 @@ pub both_if : {T E : Type 0} (result : Result T E) (P Q R : T → Type 0) → If
 both_if (Ok value) P Q R first second shows = shows value first second
 both_if (Err fault) P Q R first second shows = tt
 
--- and one more, for what does not speak of it
-pub on_three : {T E : Type 0} (result : Result T E) (P Q : T → Type 0) (R S : Type 0) → IfOk result P → IfOk result Q → OnOk result R → ((value : T) → P value → Q value → R → S) → OnOk result S
-on_three (Ok value) P Q R S first second third shows = shows value first second third
-on_three (Err fault) P Q R S first second third shows = tt
-
 pub on_err : {T E : Type 0} (P Q : Type 0) (result : Result T E) → OnErr result P → (P → Q) → OnErr result Q
 on_err P Q (Ok value) holds shows = tt
 on_err P Q (Err fault) holds shows = shows holds

@@ -1,12 +1,15 @@
 -- The side and the notes of what is stored for a history go on.
-use Rattle.std.proofs.Common.{◌≡◌, true, List, [], ◌∷◌, refl, sym, ap, ◌∙◌, subst}
+use Rattle.std.proofs.Common.{◌≡◌, ℕ, true, List, [], ◌∷◌, Some, refl, sym, ap, ◌∙◌, subst}
+use Rattle.host_model.specs.declared.file.File.{File}
 use Rattle.history.specs.History.{Beat}
 use Rattle.tier_settings.specs.declared.settings.Settings.{Settings}
 use Rattle.store_core.specs.declared.beats.beat.Beat.{Beat as StoreBeat}
-use Rattle.store_core.specs.Stored.{Stored}
+use Rattle.store_core.specs.beats.Records.{with_all}
+use Rattle.store_core.proofs.BeatProofs.RecordLaw.{oldest_first}
+use Rattle.store_core.proofs.StandLemmas.{stands-form}
 use Rattle.agent_core.specs.Kept.{AreBeatsOf}
-use Rattle.agent_core.specs.Notes.{beats_go_on, left_after, noted_of, notes_go_on, with_note, Noted}
-use Rattle.agent_core.specs.Stands.{AreSince, IsStoredOf}
+use Rattle.agent_core.specs.Notes.{beats_go_on, left_after, noted_in_side, noted_of, with_note, Noted, NotesGo}
+use Rattle.agent_core.specs.Stands.{AreSince, StandsForHistory}
 use Rattle.agent_core.proofs.NoteLemmas.{go-on-more, go-on-none, goes-by, left-more, left-none}
 use Rattle.agent_core.proofs.ReplayLemmas.{beat-leaves, beat-takes}
 use Rattle.agent_core.proofs.SideNoted.{side-noted}
@@ -38,7 +41,19 @@ history-leaves earlier (beat ∷ h) before (kept ∷ since) were are =
       go_on = go-on-more start (noted_of h) since kept true was.go_on (sym was.left) (beat-takes h was.beats was.are beat kept are.0 (noted_of h) refl);
     }
 
-pub history-goes : (set : Settings) (h : List Beat) (stored : Stored) → IsStoredOf set h stored → notes_go_on stored ≡ true
-history-goes set h stored are =
-    goes-by (noted_of are.earlier) stored true (side-noted set are.earlier are.beats are.were stored.base.side are.side)
-    (history-leaves are.earlier h are.beats stored.after are.were are.since).go_on
+pub history-goes : (set : Settings) (h : List Beat) (disk : File → List ℕ) → StandsForHistory set h disk → NotesGo true disk
+history-goes set h disk here =
+    let are = here.are in
+    let body = here.stands.contents.body in
+    let start = noted_of are.earlier in
+    let since = oldest_first here.stored.after in
+    let good : noted_in_side body.side ≡ Some start
+    = ap noted_in_side here.stands.has.base.side ∙ side-noted set are.earlier are.beats are.were here.stored.base.side are.side in
+    let go_on : beats_go_on start (with_all [] since.rest) ≡ true
+    = ap (λ (all : List StoreBeat). beats_go_on start all) since.whole ∙ (history-leaves are.earlier h are.beats here.stored.after are.were are.since).go_on in
+    record {
+      body = body;
+      beats = since.rest;
+      form = stands-form here.stored disk here.stands since.rest since.whole;
+      notes = goes-by start body.side since.rest true good go_on;
+    }

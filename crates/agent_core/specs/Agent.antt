@@ -11,10 +11,10 @@ use Rattle.alarm_core.specs.declared.alarms.Alarms.{Alarms}
 use Rattle.side_codec.specs.declared.gap.GapSpan.{GapSpan}
 use Rattle.alarm_core.specs.UpTo.{IsUpTo}
 use Rattle.tier_settings.specs.declared.settings.Settings.{Settings}
+use Rattle.store_core.specs.declared.beats.beat.Beat.{Beat as StoreBeat}
 use Rattle.store_core.specs.declared.fault.Why.{Why}
 use Rattle.store_core.specs.Counts.{counted}
 use Rattle.store_core.specs.Store.{IsReady, IsReplayed, StoreState}
-use Rattle.store_core.specs.Stored.{Stored}
 use Rattle.agent_core.specs.declared.left.Left.{Left}
 use Rattle.agent_core.specs.declared.left.Role.{Role}
 use Rattle.agent_core.specs.Stands.{HoldsHistory, StandsForPrefix}
@@ -96,9 +96,9 @@ pub record IsSpentAfter (past : List Event) (agent : AgentState) (set : Settings
 abbrev pub IsSoundBy : List Event → AgentState → Settings → List Beat → List Beat → Type 0
 IsSoundBy past agent set h tried = IsAgentOf past agent set h ⊎ IsSpentAfter past agent set h tried
 
--- the agent was opened with what is stored, of whatever history it is: it has what the notes leave
-pub record HasLeft (stored : Stored) (agent : AgentState) : Type 0 where
-  pub noted : left_by stored ≡ Some (noted_in (left_in agent))
+-- the agent was opened with this side and these beats since, of whatever history they are: it has what the notes leave
+pub record HasLeft (side : List ℕ) (beats : List StoreBeat) (agent : AgentState) : Type 0 where
+  pub noted : left_by side beats ≡ Some (noted_in (left_in agent))
 
 -- an agent that was just made
 pub record IsNewAgent (set : Settings) (agent : AgentState) : Type 0 where

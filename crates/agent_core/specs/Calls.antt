@@ -23,15 +23,16 @@ use Rattle.alarm_events.specs.declared.log.Log.{Log}
 use Rattle.side_codec.specs.Size.{side_limit}
 use Rattle.tier_settings.specs.declared.settings.Settings.{Settings}
 use Rattle.beat_tiers.specs.declared.kept.Kept.{Kept}
+use Rattle.checkpoint_body.specs.declared.body.Body.{Body}
+use Rattle.store_core.specs.declared.beats.beat.Beat.{Beat as StoreBeat}
 use Rattle.store_core.specs.disk.Holds.{OnlyOwn}
 use Rattle.store_core.specs.disk.Shares.{share, IsWithin}
-use Rattle.store_core.specs.Damaged.{IsDamagedIn}
-use Rattle.store_core.specs.Stands.{is_made, Stands}
+use Rattle.store_core.specs.Damaged.{HasForm, IsDamagedIn}
+use Rattle.store_core.specs.Stands.{is_made}
 use Rattle.agent_core.specs.Gaps.{side_share}
 use Rattle.agent_core.specs.Notes.{IsDamaged}
 use Rattle.store_core.specs.Counts.{counted, raised}
 use Rattle.store_core.specs.Store.{is_due}
-use Rattle.store_core.specs.Stored.{Stored}
 use Rattle.agent_core.specs.declared.fault.AgentFault.{AgentFault}
 use Rattle.agent_core.specs.declared.fault.AgentFault.TheVariants.{DiskFault, NotADatabase, Damaged, Exists, Memory}
 use Rattle.agent_core.specs.declared.left.Role.TheVariants.{Copies}
@@ -170,8 +171,8 @@ pub record Opens (honest : Type 0) (host : Seen) (result : Result AgentState Age
   pub opened : IfOk result (λ agent. honest → (set : Settings) (h : List Beat) → StandsForHistory set h (reads_as host.past) → IsAgentOf host'.past agent set h)
   pub ready : IfOk result (AgentIsReady honest host'.past)
   pub going : IfOk result (λ agent. agent.fault ≡ None)
-  -- whatever history that is: its registry and its role are what the side and the notes leave
-  pub left : IfOk result (λ agent. honest → (stored : Stored) → Stands stored (reads_as host.past) → HasLeft stored agent)
+  -- whatever history that is, if any: its registry and its role are what the side and the notes of the disk leave
+  pub left : IfOk result (λ agent. honest → (body : Body) (beats : List StoreBeat) → HasForm body beats (reads_as host.past) → HasLeft body.side beats agent)
   -- at every moment a crash leaves what it might have left before, and all files read as before
   pub any_moment : honest → Throughout (EveryDisk (IsDisk host.past)) host.past host'.past
   pub same : honest → (file : File) → reads_as host'.past file ≡ reads_as host.past file
@@ -181,14 +182,14 @@ pub record Opens (honest : Type 0) (host : Seen) (result : Result AgentState Age
   pub stands : honest → (set : Settings) (h : List Beat) → StandsForHistory set h (reads_as host.past) → IfErr result (λ fault. (fault ≡ DiskFault) ⊎ (fault ≡ Memory))
   pub none : IsErrOf result NotADatabase → honest → is_made (reads_as host.past) ≡ false
   pub some : OnOk result (honest → is_made (reads_as host.past) ≡ true)
-  -- where a part of the files is damaged, or a beat stands behind one that sealed a segment
+  -- the first part of the files that is not in its form: the checkpoint's file, its body, an extent, or the journal
   pub damaged : (part : ℕ) → part ≤ 4 → IsErrOf result (Damaged part) → honest → IsDamaged (reads_as host.past)
-  -- the checkpoint's file, its body, or an extent
-  pub parts : (part : ℕ) → part ≤ 3 → IsErrOf result (Damaged part) → honest → IsDamagedIn part (reads_as host.past)
-  -- where a part of the files is damaged, its number is told
+  pub parts : (part : ℕ) → part ≤ 4 → IsErrOf result (Damaged part) → honest → IsDamagedIn part (reads_as host.past)
+  -- where a part of the files is damaged, its number is told, and nothing is opened
   pub first : (part other : ℕ) → IsErrOf result (Damaged part) → honest → IsDamagedIn other (reads_as host.past) → other ≡ part
+  pub whole : OnOk result (honest → (part : ℕ) → IsDamagedIn part (reads_as host.past) → ⊥)
   pub made : (part : ℕ) → IsErrOf result (Damaged part) → honest → is_made (reads_as host.past) ≡ true
-  -- what was opened goes on from beat to beat
+  -- the disk has the form of a database, and what was opened goes on from beat to beat
   pub notes : OnOk result (honest → NotesGo true (reads_as host.past))
   -- where the side is not good, a note is no entry that goes on, or a point is of a series that is not there
   pub damaged_notes : IsErrOf result (Damaged 5) → honest → NotesGo true (reads_as host.past) → ⊥

@@ -184,7 +184,7 @@ IsReading Memory = Unit {0}
 
 -- why what is stored is not replayed
 abbrev pub IsUnreplayed : AgentFault → Type 0
-IsUnreplayed fault = (fault ≡ Memory) ⊎ ((fault ≡ Damaged 4) ⊎ (fault ≡ Damaged 5))
+IsUnreplayed fault = (fault ≡ Memory) ⊎ (fault ≡ Damaged 5)
 
 -- why a store is not opened
 abbrev pub IsUnopened : AgentFault → Type 0

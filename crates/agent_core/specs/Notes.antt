@@ -1,6 +1,6 @@
 -- From what is stored an agent can be opened: the side is that of charts and dimensions and of alarms of these, the entries
--- in the notes go on, each from what those before it leave, and points are of series that are there. A store has its newest
--- beat first.
+-- in the notes go on, each from what those before it leave, and points are of series that are there. A list of beats has the
+-- newest first; those of a disk have the oldest first.
 use Rattle.std.specs.Prelude.{◌≡◌, ℕ, nat_lt, Bool, true, false, ◌&&◌, List, [], ◌∷◌, length, Option, Some, None, is_none, is_some, Result, Ok, Err, if◌then◌else◌}
 use Rattle.std.specs.List.{list_all}
 use Rattle.std.specs.Option.{option_and_then, option_map, option_map_or}
@@ -20,10 +20,12 @@ use Rattle.entry_codec.specs.Entries.{read_entry}
 use Rattle.beat_entries.specs.Copied.{copied_goes_on, defined_by}
 use Rattle.chart_registry.specs.Taking.{is_number}
 use Rattle.beat_entries.specs.Next.{goes_on, with_numbered}
+use Rattle.checkpoint_body.specs.declared.body.Body.{Body}
 use Rattle.store_core.specs.declared.beats.beat.Beat.{Beat as StoreBeat}
+use Rattle.store_core.specs.beats.Records.{with_all}
 use Rattle.beat_tiers.specs.declared.item.BeatPoint.{BeatPoint}
-use Rattle.store_core.specs.Stands.{is_made, Stands}
-use Rattle.store_core.specs.Stored.{Stored}
+use Rattle.store_core.specs.Damaged.{HasForm}
+use Rattle.store_core.specs.Stands.{is_made}
 use Rattle.agent_core.specs.declared.left.Left.{Left}
 use Rattle.agent_core.specs.declared.left.Role.{Role}
 use Rattle.agent_core.specs.declared.left.Role.TheVariants.{Undecided, Collects, Copies}
@@ -142,25 +144,26 @@ noted_if side = if is_good side then Some (noted_by side) else None
 unfoldable pub noted_in_side : List ℕ → Option Noted
 noted_in_side bytes = option_and_then noted_if (read_side bytes)
 
--- ---- all that is stored
+-- ---- all that a disk has
 
 -- what the side and the entries of the beats since leave, if the side is good
-abbrev pub left_by : Stored → Option Noted
-left_by stored = option_map (λ start. left_after start stored.after) (noted_in_side stored.base.side)
+abbrev pub left_by : (side : List ℕ) → List StoreBeat → Option Noted
+left_by side beats = option_map (λ start. left_after start (with_all [] beats)) (noted_in_side side)
 
 -- the side is good, and the beats since go on from what it leaves
-abbrev pub notes_go_on : Stored → Bool
-notes_go_on stored = option_map_or (λ start. beats_go_on start stored.after) (noted_in_side stored.base.side) false
+abbrev pub notes_go_on : (side : List ℕ) → List StoreBeat → Bool
+notes_go_on side beats = option_map_or (λ start. beats_go_on start (with_all [] beats)) (noted_in_side side) false
 
--- the disk holds a database with what is stored, and whether the side and the notes of this go on
+-- the disk has the form of a database, and whether the side and the notes of this go on
 pub record NotesGo (goes : Bool) (disk : File → List ℕ) : Type 0 where
-  pub stored : Stored
-  pub stands : Stands stored disk
-  pub notes : notes_go_on stored ≡ goes
+  pub body : Body
+  pub beats : List StoreBeat
+  pub form : HasForm body beats disk
+  pub notes : notes_go_on body.side beats ≡ goes
 
 -- ---- damage
 
--- there is a database on the disk, and it is that of no base and beats
+-- there is a database on the disk, and it is in no form
 pub record IsDamaged (disk : File → List ℕ) : Type 0 where
   pub made : is_made disk ≡ true
-  pub none_stands : (stored : Stored) → Stands stored disk → ⊥
+  pub no_form : (body : Body) (beats : List StoreBeat) → HasForm body beats disk → ⊥

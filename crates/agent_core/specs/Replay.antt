@@ -17,8 +17,9 @@ use Rattle.side_codec.specs.declared.gap.GapSpan.{GapSpan}
 use Rattle.tier_settings.specs.declared.settings.Settings.{Settings}
 use Rattle.beat_tiers.specs.declared.item.BeatPoint.{BeatPoint}
 use Rattle.store_core.specs.declared.beats.beat.Beat.{Beat as StoreBeat}
+use Rattle.store_core.specs.beats.Records.{with_all}
 use Rattle.store_core.specs.Store.{IsReplayed, IsStoreAt, OpensAt, StoreState}
-use Rattle.store_core.specs.Stored.{stored_with_all, Stored}
+use Rattle.store_core.specs.Stored.{Stored}
 use Rattle.agent_core.specs.declared.left.Left.{Left}
 use Rattle.agent_core.specs.Agent.{AgentState}
 use Rattle.agent_core.specs.declared.alarming.Stepping.{Stepping}
@@ -123,14 +124,13 @@ pub record IsReplaying (past : List Event) (store : StoreState) (left : Left) (s
   pub at : IsAtPrefix past store set prefix h
   pub left_by : IsLeftBy set prefix left
 
--- the store has replayed a prefix of what is stored, whose notes go on from a start, and this is what they leave
-pub record HasTaken (start : Noted) (past : List Event) (store : StoreState) (left : Left) (stored : Stored) : Type 0 where
-  pub applied : Stored
-  pub rest : List StoreBeat
-  pub whole : stored_with_all applied rest ≡ stored
-  pub is_at : IsStoreAt past store applied rest
-  pub go_on : beats_go_on start applied.after ≡ true
-  pub left_is : noted_in left ≡ left_after start applied.after
+-- The store has replayed the first of these beats, which have the oldest first, and the others wait. The notes of those go on
+-- from a start, and this is what they leave.
+pub record HasTaken (start : Noted) (beats : List StoreBeat) (store : StoreState) (left : Left) : Type 0 where
+  pub applied : List StoreBeat
+  pub whole : with_all applied store.waiting ≡ with_all [] beats
+  pub go_on : beats_go_on start applied ≡ true
+  pub left_is : noted_in left ≡ left_after start applied
 
 -- the store was opened, with what it has stored for this history
 pub record IsOpenedFor (past : List Event) (store : StoreState) (set : Settings) (h : List Beat) : Type 0 where

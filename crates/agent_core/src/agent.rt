@@ -10,8 +10,7 @@ ghost use Rattle.tier_settings.specs.Limits.{InLimits};
 ghost use Rattle.agent_core.specs.Gaps.{side_share};
 ghost use Rattle.beat_tiers.specs.State.{tier_floor};
 ghost use Rattle.store_core.specs.Counts.{raised};
-ghost use Rattle.store_core.specs.Store.{is_due, IsReady, OpensAt};
-ghost use Rattle.store_core.specs.Stored.{Stored as AStored};
+ghost use Rattle.store_core.specs.Store.{is_due, IsReady};
 ghost use Rattle.agent_core.specs.Answers.{floor_of_history};
 ghost use Rattle.agent_core.specs.Agent.{left_in};
 ghost use Rattle.alarm_core.specs.UpTo.{IsUpTo};
@@ -133,9 +132,10 @@ impl Agent {
 
     /// Opens the database of an agent and goes through all that it holds.
     ///
-    /// `NotADatabase` where there is none, unless the disk fails or memory runs out, and `Damaged` only where what is there stands for no
-    /// history: with 1 to 4 where a part of its files is damaged (1 the checkpoint's file, 2 its body, 3 an
-    /// extent, 4 the journal, also where a beat stands behind one that sealed a segment), and with 5 where the side of the checkpoint, a note or a point is bad. A side is
+    /// `NotADatabase` where there is none, unless the disk fails or memory runs out, and `Damaged` only where what is there
+    /// stands for no history. With 1 to 4 it tells the first part of the files that is not in its form: 1 the checkpoint's
+    /// file, 2 its body, 3 an extent, 4 the journal. With 5 all of these are in form, and the side of the checkpoint, a note
+    /// or a point is bad. What the pages of the extents hold, and whether any beats leave that, is not asked. A side is
     /// bad where it is none, its charts and dimensions do not go on from nothing, or its alarms are of a text
     /// that is refused or of a chart that is not there. A note is bad where it is no entry of a beat with the
     /// moment of its record, does not go on from the side and the notes before, mixes copies with collected
@@ -168,16 +168,10 @@ impl Agent {
             (λ fault. (past : List Event) (set : ASettings) (h : List HistoryBeat)
             → IsOpenedFor past store set h
             → fault ≡ AgentFault.Memory) }
-        ensures left { IfOk result (λ agent. (past : List Event) (stored : AStored)
-            → OpensAt past store stored → HasLeft stored agent) }
-        ensures notes { OnOk result ((past : List Event) (stored : AStored)
-            → OpensAt past store stored → notes_go_on stored ≡ true) }
-        ensures broken { IfErr result
-            (λ fault. fault ≡ AgentFault.Damaged 5 → (past : List Event) (stored : AStored)
-            → OpensAt past store stored → notes_go_on stored ≡ false) }
-        ensures whole { IfErr result
-            (λ fault. fault ≡ AgentFault.Damaged 4 → (past : List Event) (stored : AStored)
-            → OpensAt past store stored → ⊥) }
+        ensures left { IfOk result (HasLeft store.body.side store.waiting) }
+        ensures notes { OnOk result (notes_go_on store.body.side store.waiting ≡ true) }
+        ensures broken { IfErr result (λ fault. fault ≡ AgentFault.Damaged 5
+            → notes_go_on store.body.side store.waiting ≡ false) }
         ensures ready { IfOk result (λ agent. (past : List Event) → IsReady H.honest past store
             → IsReady H.honest past agent.store) }
         ensures host { H.seen host.new ≡ H.seen host.old }

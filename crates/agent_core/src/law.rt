@@ -20,6 +20,7 @@ ghost use Rattle.replication.specs.Copies.{above, had_floor, latest, EndsBy, Ris
 ghost use Rattle.link_frames.specs.DataForm.{IsData};
 ghost use Rattle.store_core.specs.declared.beats.beat.Beat.{Beat as StoreBeat};
 ghost use Rattle.store_core.specs.Stands.{is_made};
+ghost use Rattle.store_core.specs.Damaged.{IsDamagedIn};
 ghost use Rattle.agent_core.specs.Notes.{IsDamaged};
 ghost use Rattle.collect_block.specs.declared.feed.Feed.{Feed};
 ghost use Rattle.collect_block.specs.Feed.{CountsAt, IsFeedOf};
@@ -62,15 +63,17 @@ pub fn accepted_text_keeps_the_rules()
         → IsWithin (registry_of (history_at every h past)) }
 {}
 
-/// The laws of the side and the notes of a disk: where it stands for a history, they go on. Where it holds a
-/// database of a base and beats, these are its only ones, so that they do not both go on and not, and the
-/// database is not damaged. It does nothing.
+/// The laws of the side and the notes of a disk: where it stands for a history, they go on. Where it has the form
+/// of a database, it has no other, so that they do not both go on and not, and no part of it is damaged. It does
+/// nothing.
 pub fn history_notes_go_on()
     ensures history { (set : ASettings) (h : List Beat) (disk : AFile → List ℕ)
         → StandsForHistory set h disk → NotesGo true disk }
     ensures once { (disk : AFile → List ℕ) → NotesGo true disk → NotesGo false disk → ⊥ }
     ensures records { (goes : Bool) (disk : AFile → List ℕ) → NotesGo goes disk → IsDamaged disk
         → ⊥ }
+    ensures whole { (goes : Bool) (part : ℕ) (disk : AFile → List ℕ) → NotesGo goes disk
+        → IsDamagedIn part disk → ⊥ }
     ensures made { (goes : Bool) (disk : AFile → List ℕ) → NotesGo goes disk
         → is_made disk ≡ true }
 {}

@@ -1,6 +1,6 @@
 //! What the beats of a history leave, from what a store kept of them.
 
-ghost use Rattle.std.specs.Prelude.{◌≡◌, ◌⊎◌, ◌<◌, ℕ, List, true, false, length, IfOk, IfErr, IsErrOf, OnOk};
+ghost use Rattle.std.specs.Prelude.{◌≡◌, ◌⊎◌, ◌<◌, ℕ, List, [], true, false, length, IfOk, IfErr, IsErrOf, OnOk};
 ghost use Rattle.host_model.specs.declared.file.File.{File as AFile};
 ghost use Rattle.host_model.specs.Past.{Event, IsDisk};
 ghost use Rattle.host_model.specs.Disks.{EveryDisk, reads_as};
@@ -11,8 +11,8 @@ ghost use Rattle.tier_settings.specs.declared.settings.Settings.{Settings as ASe
 ghost use Rattle.store_core.specs.declared.beats.beat.Beat.{Beat as StoreBeat};
 ghost use Rattle.store_core.specs.disk.Holds.{OnlyOwn};
 ghost use Rattle.store_core.specs.disk.Shares.{IsWithin};
-ghost use Rattle.store_core.specs.beats.Records.{TakesFirst};
-ghost use Rattle.store_core.specs.Damaged.{IsDamagedIn};
+ghost use Rattle.store_core.specs.beats.Records.{with_all, TakesFirst};
+ghost use Rattle.store_core.specs.Damaged.{HasForm, IsDamagedIn};
 ghost use Rattle.store_core.specs.Stands.{is_made, Stands};
 ghost use Rattle.store_core.specs.Store.{IsReady, IsReplayed, IsStoreAt, OpensAt, Replays};
 ghost use Rattle.store_core.specs.Stored.{Stored as AStored};
@@ -51,6 +51,8 @@ pub(crate) fn open_store<H: Host>(alloc: Global, host: &mut H) -> Result<Store, 
     ensures none { IsErrOf result AgentFault.NotADatabase → H.honest
         → is_made (reads_as (H.seen host.old).past) ≡ false }
     ensures some { OnOk result (H.honest → is_made (reads_as (H.seen host.old).past) ≡ true) }
+    ensures form { IfOk result (λ store. H.honest
+        → HasForm store.body store.waiting (reads_as (H.seen host.old).past)) }
     ensures damaged { (part : ℕ) → IsErrOf result (AgentFault.Damaged part) → H.honest
         → IsDamagedIn part (reads_as (H.seen host.old).past) }
     ensures whole { OnOk result (H.honest → (part : ℕ)
@@ -72,11 +74,8 @@ fn next_beat<H: Host>(store: &mut Store, _host: &mut H) -> Result<Option<Beat>, 
     ensures next { (past : List Event) (stored : AStored) (rest : List StoreBeat)
         → IsStoreAt past store.old stored rest
         → IfOk result (Replays past store.new stored rest) }
-    ensures whole { (past : List Event) (stored : AStored) (rest : List StoreBeat)
-        → IsStoreAt past store.old stored rest
-        → IfErr result (λ fault. fault ≡ AgentFault.Memory) }
 
-    // The same, of a store that is of no beats.
+    // The same, of a store of which it is not known what it has stored.
     ensures takes { IfOk result (λ next. TakesFirst store.old.waiting next store.new.waiting) }
     ensures ready { (past : List Event) → IsReady H.honest past store.old
         → IsReady H.honest past store.new }
@@ -84,8 +83,7 @@ fn next_beat<H: Host>(store: &mut Store, _host: &mut H) -> Result<Option<Beat>, 
     ensures body { store.new.body ≡ store.old.body }
     ensures going { OnOk result (store.new.fault ≡ None) }
     ensures host { _host.new ≡ _host.old }
-    ensures faults { IfErr result
-        (λ fault. (fault ≡ AgentFault.Memory) ⊎ (fault ≡ AgentFault.Damaged 4)) }
+    ensures faults { IfErr result (λ fault. fault ≡ AgentFault.Memory) }
 {
     Ok(store.replay()?)
 }
@@ -109,19 +107,13 @@ fn replay_next<H: Host>(
         → IsReplaying past store.old left.old set h → fault ≡ AgentFault.Memory) }
 
     // Whatever beats the store keeps: they go on so far, and where one does not, it is damaged.
-    ensures notes { OnOk result
-        ((start : Noted) (past : List Event) (stored : AStored)
-        → HasTaken start past store.old left.old stored
-        → HasTaken start past store.new left.new stored) }
+    ensures notes { OnOk result ((start : Noted) (beats : List StoreBeat)
+        → HasTaken start beats store.old left.old
+        → HasTaken start beats store.new left.new) }
     ensures broken { IfErr result
-        (λ fault. fault ≡ AgentFault.Damaged 5
-        → (start : Noted) (past : List Event) (stored : AStored)
-        → HasTaken start past store.old left.old stored
-        → beats_go_on start stored.after ≡ false) }
-    ensures whole { IfErr result
-        (λ fault. fault ≡ AgentFault.Damaged 4
-        → (start : Noted) (past : List Event) (stored : AStored)
-        → HasTaken start past store.old left.old stored → ⊥) }
+        (λ fault. fault ≡ AgentFault.Damaged 5 → (start : Noted) (beats : List StoreBeat)
+        → HasTaken start beats store.old left.old
+        → beats_go_on start (with_all [] beats) ≡ false) }
 
     // The beats that wait become fewer, until there are none.
     ensures smaller { IfOk result
@@ -168,20 +160,13 @@ pub(crate) fn replay_all<H: Host>(
         (g h : List HistoryBeat) → IsAtPrefix past store.old set g h → IsLeftBy set g left.old
         → fault ≡ AgentFault.Memory) }
 
-    // Whatever beats the store keeps: their notes go on, or it is damaged.
-    ensures notes { OnOk result ((past : List Event) (stored : AStored)
-        → OpensAt past store.old stored
-        → beats_go_on (noted_in left.old) stored.after ≡ true) }
-    ensures noted { OnOk result ((past : List Event) (stored : AStored)
-        → OpensAt past store.old stored
-        → noted_in left.new ≡ left_after (noted_in left.old) stored.after) }
-    ensures broken { IfErr result
-        (λ fault. fault ≡ AgentFault.Damaged 5
-        → (past : List Event) (stored : AStored) → OpensAt past store.old stored
-        → beats_go_on (noted_in left.old) stored.after ≡ false) }
-    ensures whole { IfErr result
-        (λ fault. fault ≡ AgentFault.Damaged 4
-        → (past : List Event) (stored : AStored) → OpensAt past store.old stored → ⊥) }
+    // Whatever beats wait: their notes go on, or it is damaged.
+    ensures notes { OnOk result
+        (beats_go_on (noted_in left.old) (with_all [] store.old.waiting) ≡ true) }
+    ensures noted { OnOk result (noted_in left.new
+        ≡ left_after (noted_in left.old) (with_all [] store.old.waiting)) }
+    ensures broken { IfErr result (λ fault. fault ≡ AgentFault.Damaged 5
+        → beats_go_on (noted_in left.old) (with_all [] store.old.waiting) ≡ false) }
 
     // What holds of any store.
     ensures done { OnOk result (IsReplayed store.new) }

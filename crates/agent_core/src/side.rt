@@ -27,11 +27,11 @@ use crate::left::{Left, Role};
 use alarm_core::{Alarms, Latest, SeriesPointList, SeriesValueList};
 use alarm_events::KeptAlarms;
 use algorithms::Last;
-use beat_entries::define;
+use beat_entries::{define_charts, define_dimensions};
 use beat_points::LastRows;
 use chart_registry::Registry;
 use fixed_num::{ByteList, ListOf};
-use history::{ChartList, DimensionList, NumberedBeat, NumberedChart, NumberedDimension, RowList};
+use history::{ChartList, DimensionList, NumberedChart, NumberedDimension};
 use query_engine::Point;
 use side_codec::{LastPoint, LastPointList, Side, SideRole, is_short, read_side, write_side};
 use std::alloc::{AllocError, Global};
@@ -244,13 +244,8 @@ fn defined(
         (λ fault. (fault ≡ AgentFault.Memory) ⊎ (fault ≡ AgentFault.Damaged 5)) }
 {
     let mut registry = Registry::new(alloc);
-    let beat = NumberedBeat {
-        moment: 0,
-        charts,
-        dimensions,
-        rows: RowList::new(alloc),
-    };
-    define(&mut registry, &beat)?;
+    define_charts(&mut registry, charts.as_slice())?;
+    define_dimensions(&mut registry, dimensions.as_slice())?;
     Ok(registry)
 }
 

@@ -30,11 +30,9 @@ fn take_chart(registry: &mut Registry, chart: &NumberedChart) -> Result<(), Entr
     Ok(())
 }
 
-/// Takes charts, up to the first that is refused or for which there is no memory.
-pub(crate) fn define_charts(
-    registry: &mut Registry,
-    charts: &[NumberedChart],
-) -> Result<(), EntryRefusal>
+/// Takes charts, each by its number. `NotNext` only where one does not keep its limits, or the registry refuses it or
+/// numbers it otherwise. After an `Err` the registry has taken those before it.
+pub fn define_charts(registry: &mut Registry, charts: &[NumberedChart]) -> Result<(), EntryRefusal>
     ensures ok { OnOk result (registry.new ≡ with_charts registry.old charts.now) }
     ensures taken { OnOk result
         (all_taken takes_chart with_chart registry.old charts.now ≡ true) }
@@ -83,8 +81,9 @@ fn take_dimension(
     Ok(())
 }
 
-/// Takes dimensions, up to the first that is refused or for which there is no memory.
-pub(crate) fn define_dimensions(
+/// Takes dimensions, each by its number, of charts that are there. `NotNext` only where one does not keep its limits, or
+/// the registry refuses it or numbers it otherwise. After an `Err` the registry has taken those before it.
+pub fn define_dimensions(
     registry: &mut Registry,
     dimensions: &[NumberedDimension],
 ) -> Result<(), EntryRefusal>

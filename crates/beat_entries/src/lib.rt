@@ -36,6 +36,7 @@ mod usual;
 
 pub use beat_fault::BeatFault;
 pub use copied::{copied_beat_goes_on, define_copied};
+pub use defining::{define_charts, define_dimensions};
 pub use definitions::NumberedDefinitions;
 pub use entry::define;
 pub use law::{

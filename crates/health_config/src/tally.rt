@@ -2,6 +2,7 @@
 ghost use Rattle.std.specs.Prelude.{◌≡◌, ◌<◌, ◌≤◌, ◌+◌, ◌^◌, [], ◌++◌, length, map, Ok, is_none, option_map, IfOk, IfErr, OnOk, MatchOption};
 ghost use Rattle.std.specs.List.{prefix_len};
 ghost use Rattle.std.specs.Option.{option_to_list};
+ghost use Rattle.health_config.specs.declared.tally.TheConstants.{ENTITY_LIMIT};
 ghost use Rattle.health_config.specs.Fault.{IsRefusalFor};
 ghost use Rattle.health_config.specs.Key.{begins};
 ghost use Rattle.health_config.specs.Draft.{draft_of};
@@ -104,7 +105,7 @@ fn add_entity(
     ensures ok { OnOk result (spec.Adds
         (spec.entity before (record { template = template; head = head.now; body = body.now }))
         (tally_of tally.old) (tally_of tally.new)) }
-    ensures few { OnOk result (before < 4096) }
+    ensures few { OnOk result (before < ENTITY_LIMIT) }
     ensures skipped { OnOk result (tally.new.skipped ≤ tally.old.skipped + length body.now) }
     ensures fault { IfErr result (IsRefusalFor
         (spec.entity before (record { template = template; head = head.now; body = body.now }))) }

@@ -3,6 +3,7 @@ use Rattle.std.specs.Prelude.{◌≡◌, ℕ, ◌<◌, ◌≤◌, List, [], ◌�
 use Rattle.std.specs.List.{AllByRecursion}
 use Rattle.fixed_num.specs.declared.units.NumberFault.TheVariants.{TooWide}
 use Rattle.fixed_num.specs.UnitsText.{units_read}
+use Rattle.health_expr.specs.declared.parser.TheConstants.{LEVELS}
 use Rattle.health_expr.specs.declared.word.Kind.{Kind}
 use Rattle.health_expr.specs.declared.word.Kind.TheVariants.{End, Number}
 use Rattle.health_expr.specs.Spelling.{Spelled, placed_in, Spells, IsLow}
@@ -65,7 +66,7 @@ pub record IsTooDeep (text : List ℕ) : Type 0 where
   pub splits : Splits text before word
   pub levels : ℕ
   pub fits : Reaches before word.kind levels
-  pub deep : 64 < levels
+  pub deep : LEVELS < levels
 
 -- a number fits that has more than seven decimals or is past the limit, at a place that is not too deep; the
 -- words before it have no fault
@@ -75,6 +76,6 @@ pub record IsTooWide (text : List ℕ) : Type 0 where
   pub splits : Splits text before word
   pub levels : ℕ
   pub fits : Reaches before word.kind levels
-  pub low : levels ≤ 64
+  pub low : levels ≤ LEVELS
   pub number : word.kind ≡ Number
   pub wide : units_read word.said ≡ Err TooWide

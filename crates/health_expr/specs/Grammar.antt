@@ -2,6 +2,7 @@
 use Rattle.std.specs.Prelude.{ℕ, zero, suc, ◌==◌, Bool, true, false, if◌then◌else◌, List, length, Option, Some, None, Result, Ok, Err, ℤ}
 use Rattle.fixed_num.specs.declared.units.NumberFault.{NumberFault}
 use Rattle.fixed_num.specs.UnitsText.{units_read}
+use Rattle.health_expr.specs.declared.parser.TheConstants.{LEVELS}
 use Rattle.health_expr.specs.declared.fault.ExprFault.{ExprFault}
 use Rattle.health_expr.specs.declared.fault.ExprFault.TheVariants.{Syntax, TooDeep, NumberTooWide}
 use Rattle.health_expr.specs.declared.operator.Prefix.{Prefix}
@@ -172,4 +173,4 @@ whole (Err fault) = Err fault
 
 -- the tree that a text is, or its first fault; 64 levels may be open at a place
 unfoldable pub tree_read : List ℕ → Result Tree ExprFault
-tree_read text = whole (expression 65 (words_of text))
+tree_read text = whole (expression (suc LEVELS) (words_of text))

@@ -2,6 +2,7 @@
 use Rattle.std.specs.Prelude.{◌≡◌, ℕ, suc, ◌-◌, ◌≤◌, List, [], ◌∷◌, ◌++◌, length, map, Option, Some, None, Ok, ℤ}
 use Rattle.std.specs.List.{AllByRecursion}
 use Rattle.fixed_num.specs.UnitsText.{units_read}
+use Rattle.health_expr.specs.declared.parser.TheConstants.{LEVELS}
 use Rattle.health_expr.specs.declared.operator.Prefix.{Prefix}
 use Rattle.health_expr.specs.declared.operator.Prefix.TheVariants as prefix
 use Rattle.health_expr.specs.declared.operator.Operator.{Operator}
@@ -87,7 +88,7 @@ pub data Spells : ℕ → ℕ → Tree → List Spelled → Type 0 where
 
 -- at most 64 levels may hold a place
 abbrev pub IsLow : Spelled → Type 0
-IsLow spelled = spelled.levels ≤ 64
+IsLow spelled = spelled.levels ≤ LEVELS
 
 -- the words of a text, all of it, spell a tree, and no place in it is too deep
 pub record IsSpelling (text : List ℕ) (inner : Tree) : Type 0 where

@@ -1,4 +1,5 @@
 ghost use Rattle.std.specs.Prelude.{◌≡◌, ◌≤◌, ◌↔◌, ◌++◌, ℕ, List, Ok, Err};
+ghost use Rattle.health_expr.specs.declared.parser.TheConstants.{LEVELS};
 ghost use Rattle.health_expr.specs.Faults.{kinds, IsMisfit, IsTooDeep, IsTooWide};
 ghost use Rattle.health_expr.specs.Grammar.{tree_read};
 ghost use Rattle.health_expr.specs.Spelling.{Spelled, placed_in, levels_of, Spells, IsSpelling};
@@ -10,7 +11,7 @@ use crate::fault::ExprFault;
 /// A law of the language, for every tree; the call does nothing. The text of a tree, with parentheses
 /// only where they are needed, is read as that tree.
 pub fn tree_text_reads_back()
-    ensures { (tree : Tree) → IsWritable tree → levels_in 7 tree ≤ 64
+    ensures { (tree : Tree) → IsWritable tree → levels_in 7 tree ≤ LEVELS
         → tree_read (text_of tree) ≡ Ok tree }
 {}
 

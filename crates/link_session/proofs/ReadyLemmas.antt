@@ -1,13 +1,13 @@
 -- Where nothing happens to a file, an agent is as ready as before.
-use Rattle.std.proofs.Common.{◌≡◌, List, sym, subst}
+use Rattle.std.proofs.Common.{◌≡◌, ◌⊎◌, inl, inr, List, sym, subst}
 use Rattle.host_model.specs.declared.file.File.{File}
 use Rattle.host_model.specs.Images.{Change, IsImage}
 use Rattle.host_model.specs.Past.{of, Event}
 use Rattle.journal_core.specs.Journal.{IsOpen}
 use Rattle.store_core.specs.disk.Contents.{Contents}
-use Rattle.store_core.specs.disk.Files.{FilesState, IsOpenOf}
+use Rattle.store_core.specs.disk.Files.{FilesState, IsJournalOpen, IsOpenOf}
 use Rattle.store_core.specs.disk.Holds.{journal_file}
-use Rattle.store_core.specs.Store.{IsReady, StoreState}
+use Rattle.store_core.specs.Store.{IsLeft, IsReady, IsWhole, StoreState}
 use Rattle.agent_core.specs.Agent.{AgentIsReady, AgentState}
 
 -- the files stay open
@@ -20,23 +20,41 @@ open-elsewhere old new files contents same opened = record {
   holds = λ disk images. opened.holds disk (λ file. subst (λ (changes : List Change). IsImage changes (disk file)) (same file) (images file));
 }
 
+-- and so does the journal
+journal-elsewhere : (old new : List Event) (files : FilesState) → ((file : File) → of file new ≡ of file old) → IsJournalOpen old files → IsJournalOpen new files
+journal-elsewhere old new files same was = record {
+  records = was.records;
+  is_open = subst (λ (changes : List Change). IsOpen changes files.journal was.records) (sym (same (journal_file files.number))) was.is_open;
+}
+
 store-after : (honest : Type 0) (old new : List Event) (store : StoreState) → (honest → (file : File) → of file new ≡ of file old)
     → IsReady honest old store → IsReady honest new store
-store-after honest old new store same ready = record {
-  kept = ready.kept;
-  stored = ready.stored;
-  sound = ready.sound;
-  place = ready.place;
-  opened = λ going h.
-      let was = ready.opened going h in
-      record {
-        contents = was.contents;
-        opened = open-elsewhere old new store.files was.contents (same h) was.opened;
-        body = was.body;
-        pages = was.pages;
-        records = was.records;
-      };
-}
+store-after honest old new store same ready = record { place = ready.place; is = by ready.is }
+  where
+    by : IsWhole honest old store ⊎ IsLeft honest old store → IsWhole honest new store ⊎ IsLeft honest new store
+    by (inl was) =
+        inl (record {
+          whole = was.whole;
+          kept = was.kept;
+          stored = was.stored;
+          sound = was.sound;
+          opened = λ going h.
+              let are = was.opened going h in
+              record {
+                contents = are.contents;
+                opened = open-elsewhere old new store.files are.contents (same h) are.opened;
+                body = are.body;
+                pages = are.pages;
+                records = are.records;
+              };
+        })
+    by (inr was) =
+        inr (record {
+          broken = was.broken;
+          tiers = was.tiers;
+          waiting = was.waiting;
+          opened = λ going h. journal-elsewhere old new store.files (same h) (was.opened going h);
+        })
 
 pub ready-after : (honest : Type 0) (old new : List Event) (agent : AgentState) → (honest → (file : File) → of file new ≡ of file old)
     → AgentIsReady honest old agent → AgentIsReady honest new agent

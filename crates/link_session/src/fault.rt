@@ -69,12 +69,14 @@ impl From<AgentFault> for SessionFault {
 }
 
 /// What a refusal of a reader is for a session.
-pub(crate) fn reading_fault(fault: FrameFault) -> SessionFault
-    ensures { result ≡ reading_fault fault }
-{
-    match fault {
-        FrameFault::FrameTooLong => SessionFault::PeerRefused(PeerFault::FrameTooLong),
-        FrameFault::BadFrame => SessionFault::PeerRefused(PeerFault::BadFrame),
-        FrameFault::Memory => SessionFault::Memory,
+impl From<FrameFault> for SessionFault {
+    ghost from_gives = { λ fault given. given ≡ reading_fault fault };
+
+    fn from(fault: FrameFault) -> SessionFault {
+        match fault {
+            FrameFault::FrameTooLong => SessionFault::PeerRefused(PeerFault::FrameTooLong),
+            FrameFault::BadFrame => SessionFault::PeerRefused(PeerFault::BadFrame),
+            FrameFault::Memory => SessionFault::Memory,
+        }
     }
 }

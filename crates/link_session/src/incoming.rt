@@ -4,7 +4,7 @@ ghost use Rattle.host_model.specs.Cause.{HasCause};
 ghost use Rattle.host_model.specs.Source.{Takes};
 ghost use Rattle.link_frames.specs.declared.frame.Frame.{Frame as AFrame};
 
-use crate::fault::{SessionFault, reading_fault};
+use crate::fault::SessionFault;
 use host_model::Link;
 use line_stream::INPUT_LIMIT;
 use link_frames::{Frame, FrameList, FrameReader};
@@ -152,7 +152,7 @@ impl Incoming {
     {
         while self.given >= self.frames.len() {
             if let Some(fault) = self.reader.refused() {
-                return Err(reading_fault(fault));
+                return Err(SessionFault::from(fault));
             }
             self.take_piece(link)?;
         }

@@ -5,6 +5,7 @@ use Rattle.std.specs.Str.{bytes_eq}
 use Rattle.std.specs.Str.Parse.{without_leading_sign, signed_digits_value}
 use Rattle.fixed_num.specs.UnitsText.{is_numeral}
 use Rattle.words.specs.Words.{words, has_open_quote}
+use Rattle.simple_pattern.specs.declared.pattern.TheConstants.{WORD_LIMIT}
 use Rattle.simple_pattern.specs.Words.{words as pattern_words}
 use Rattle.history.specs.Registry.{Registry, chart_of}
 use Rattle.query_engine.specs.declared.request.Group.{Group}
@@ -32,7 +33,7 @@ pattern_text (word ∷ others) = word ++ flat_map (λ other. codes " " ++ other)
 abbrev pub pattern_read : List (List ℕ) → Result (List (List ℕ)) QueryFault
 pattern_read given =
     let pattern = pattern_words false (pattern_text given) in
-    if nat_lt 256 (length pattern) then Err BadWord else Ok pattern
+    if nat_lt WORD_LIMIT (length pattern) then Err BadWord else Ok pattern
 
 -- ---- the numbers
 

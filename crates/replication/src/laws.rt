@@ -2,6 +2,7 @@
 ghost use Rattle.std.specs.Prelude.{◌≡◌, ℕ, ◌<◌, ◌≤◌, ◌^◌, true, List, ◌++◌, length, reverse, take, Option, Some, IfOk};
 ghost use Rattle.std.specs.List.{AllByRecursion, find};
 ghost use Rattle.std.specs.List.Sorted.{IsStrictlySortedBy};
+ghost use Rattle.replication.specs.declared.answer.TheConstants.{BEAT_LIMIT};
 ghost use Rattle.replication.specs.declared.ask.Ask.{Ask as AnAsk};
 ghost use Rattle.replication.specs.declared.beats.Beat.{Beat};
 ghost use Rattle.replication.specs.declared.message.Data.{Data};
@@ -90,7 +91,7 @@ pub fn first_beats_answer_as_all()
     ensures { (child floor : ℕ) (names : Names) (beats : List Beat) (ask : AnAsk)
         → RisesFrom beat_moment 0 beats
         → data_of child floor names
-        (take 64 (above beat_moment (from_of floor ask.last) beats)) ask
+        (take BEAT_LIMIT (above beat_moment (from_of floor ask.last) beats)) ask
         ≡ data_of child floor names beats ask }
 {}
 

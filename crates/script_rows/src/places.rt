@@ -1,4 +1,4 @@
-//! A command of the script in its place: the files before it, and all that it may leave.
+//! A command in its place: the files before it, and all that it may leave.
 
 use crate::commands::command;
 use crate::files::{Files, host_before};
@@ -46,8 +46,18 @@ impl Place {
     pub fn of(alloc: Global, number: usize, moment: u32) -> Result<Place, Fail> {
         let step = command(number)?;
         let mut host = host_before(alloc, number)?;
-        let files = Files::of(alloc, &mut host)?;
         let text = text_at(alloc, moment)?;
+        Place::behind(alloc, &mut host, step, text)
+    }
+
+    /// The place of a command over this host, where this text finds what is there.
+    pub fn behind(
+        alloc: Global,
+        host: &mut MemoryHost,
+        step: &Step,
+        text: String,
+    ) -> Result<Place, Fail> {
+        let files = Files::of(alloc, host)?;
         let lefts = lefts_of(alloc, &files, step, beats_of(step), text.as_str())?;
         let wanted = Session {
             status: step.3,
@@ -102,6 +112,13 @@ impl Place {
             }
             None => false,
         }
+    }
+
+    /// Whether a crash leaves what was there before the command.
+    pub fn is_as_before(&self, alloc: Global, host: MemoryHost, keep: Keep) -> Result<bool, Fail> {
+        let mut host = host.stop(keep)?;
+        let found = Found::by(alloc, &mut host, self.text.as_str())?;
+        Ok(found_among(self.lefts.as_slice(), &found) == Some(0))
     }
 
     /// Whether a crash behind such an end leaves what it may.

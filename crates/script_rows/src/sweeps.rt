@@ -12,6 +12,12 @@ const HALF: u64 = 1024;
 /// How often that is halved.
 const HALVES: u32 = 11;
 
+/// A part of a command's calls: from the first of these numbers on, and below the second.
+pub type Part = (u64, u64);
+
+/// All calls that a command makes.
+pub const WHOLE: Part = (0, u64::MAX);
+
 /// What was seen of crashes: how many were tried, and the first that is not sound, by its number.
 pub type Seen = (u64, Option<u64>);
 
@@ -31,7 +37,7 @@ fn is_done_by(alloc: Global, place: &Place, calls: u64) -> Result<bool, Fail> {
 }
 
 /// How many calls the command makes: it does not end as it should where it may make fewer.
-fn calls_of(alloc: Global, place: &Place) -> Result<u64, Fail> {
+pub fn calls_of(alloc: Global, place: &Place) -> Result<u64, Fail> {
     let mut calls = 0u64;
     for halves in 0..HALVES {
         let half = HALF >> halves;
@@ -43,27 +49,28 @@ fn calls_of(alloc: Global, place: &Place) -> Result<u64, Fail> {
     Ok(calls)
 }
 
-/// Whether the call is among those that are refused: the first and the last fifty, every thirty-second, and all of a
-/// command that makes no more than a hundred and fifty.
-fn is_swept(calls: u64, call: u64) -> bool {
-    calls <= 150 || call < 50 || call.saturating_add(50) > calls || call % 32 == 0
-}
-
-/// The crashes where each call is refused in turn. Past the last none is, and the command ends as it should.
-fn sweep_with(alloc: Global, place: &Place, calls: u64, keep: Keep) -> Result<Seen, Fail> {
+/// The crashes where each call of this part is refused in turn. Past the last call of the command none is, and it ends
+/// as it should.
+fn sweep_with(
+    alloc: Global,
+    place: &Place,
+    calls: u64,
+    keep: Keep,
+    part: Part,
+) -> Result<Seen, Fail> {
+    let (start, end) = part;
+    let end = end.min(calls.saturating_add(1));
     let mut crashes = 0u64;
-    for call in 0..calls.saturating_add(1) {
-        if is_swept(calls, call) {
-            if seen_at(alloc, place, call, keep)? != (call == calls, true) {
-                return Ok((crashes, Some(call)));
-            }
-            crashes = crashes.saturating_add(1);
+    for call in start..end {
+        if seen_at(alloc, place, call, keep)? != (call == calls, true) {
+            return Ok((crashes, Some(call)));
         }
+        crashes = crashes.saturating_add(1);
     }
     Ok((crashes, None))
 }
 
-/// The crashes of a command with this kept.
-pub fn sweep(alloc: Global, place: &Place, keep: Keep) -> Result<Seen, Fail> {
-    sweep_with(alloc, place, calls_of(alloc, place)?, keep)
+/// The crashes of this part of a command with this kept.
+pub fn sweep(alloc: Global, place: &Place, keep: Keep, part: Part) -> Result<Seen, Fail> {
+    sweep_with(alloc, place, calls_of(alloc, place)?, keep, part)
 }

@@ -1,6 +1,6 @@
 -- The next checkpoint of a store: what the disk holds around it, and the store behind it.
 use Rattle.std.proofs.Common.{◌≡◌, ℕ, ◌+◌, ◌^◌, ◌≤◌, inl, inr, true, false, List, [], length, nat_le, None, Err, IsErrOf, arith, refl, sym, ap, ◌∙◌, subst}
-use Rattle.std.proofs.lemmas.Bool.{and_right, cond-true, or_from}
+use Rattle.std.proofs.lemmas.Bool.{and_parts, and_right, cond-true, false≢true, or_from}
 use Rattle.host_model.specs.declared.file.File.{File}
 use Rattle.host_model.specs.Cause.{HasCause}
 use Rattle.host_model.specs.Disks.{EveryDisk}
@@ -32,7 +32,7 @@ use Rattle.store_core.specs.beats.Records.{with_all, AreNext}
 use Rattle.store_core.specs.Counts.{counted}
 use Rattle.store_core.specs.Faults.{fault_of_files}
 use Rattle.store_core.specs.Stands.{records_of, HasBase, HasStored, Stands, StandsEither}
-use Rattle.store_core.specs.Store.{is_due, AreOpen, IsReady, IsReplayed, IsSound, IsStoreOf, StoreState}
+use Rattle.store_core.specs.Store.{can_advance, is_due, AreOpen, IsReady, IsReplayed, IsSound, IsStoreOf, IsWhole, StoreState}
 use Rattle.store_core.specs.Stored.{advanced, has_sealed, is_numbered, next_base, Stored}
 use Rattle.store_core.proofs.AdvancePages.{pages-of-each}
 use Rattle.store_core.proofs.NextLemmas.{goes-on, sound-after, sound-unsealed}
@@ -142,6 +142,7 @@ module _ (old : List Event) (store : StoreState) (stored : Stored) (is_of : IsSt
           count = is_of.count ∙ counted-again (stored.base.count + length stored.after);
           tiers = is_of.tiers;
           going = is_of.going;
+          whole = is_of.whole;
         })
 
 -- ---- a store of any disk
@@ -183,18 +184,38 @@ module _ (kept : KeptPages) (stored : Stored) (store : StoreState) (sound : IsSo
         records = sym (ap (λ (rest : List Beat). records_of (with_all [] rest)) replayed);
       }
 
+-- a store that can be moved on is whole
+pub whole-goes : (honest : Type 0) (past : List Event) (store : StoreState) → IsReady honest past store → can_advance store ≡ true → IsWhole honest past store
+whole-goes honest past store ready goes = elim ready.is as (λ _. IsWhole honest past store) [
+  | inl whole ↦ whole
+  | inr left ↦ absurd (false≢true (sym left.broken ∙ (and_parts store.whole (is_numbered store.files.number) goes).0))
+]
+
 pub advance-ready : (honest : Type 0) (old later : List Event) (store : StoreState) (side : List ℕ) (next : Body) (new : Sealed) (files : FilesState) → IsReady honest old store
-    → is_numbered store.files.number ≡ true → IsReplayed store → store.fault ≡ None → IsNextOf store side next new
+    → can_advance store ≡ true → IsReplayed store → store.fault ≡ None → IsNextOf store side next new
     → files ≡ record { number = store.files.number + 1; journal = empty_journal (store.files.number + 1) }
     → (honest → (contents : Contents) (kept : KeptPages) → IsOpenOf old store.files contents → IsNext contents new next kept → IsOpenOf later files (next_contents contents next kept))
     → IsReady honest later (with_next store files next)
-advance-ready honest old later store side next new files ready numbered replayed going made is done = record {
-  kept = next_pages store.body next new ready.kept;
-  stored = moved_on ready.stored side;
-  sound = advance-sound ready.kept ready.stored store ready.sound numbered replayed side next new made files (ap (λ (f : FilesState). f.number) is);
-  place = subst IsPlaced (sym is) (record { file = refl; generation = refl });
-  opened = λ still h. advance-open ready.kept ready.stored store ready.sound numbered replayed side next new made old later files (ready.opened going h) (done h);
-}
+advance-ready honest old later store side next new files ready goes replayed going made is done =
+    let was = whole-goes honest old store ready goes in
+    let numbered = (and_parts store.whole (is_numbered store.files.number) goes).1 in
+    record {
+      place = subst IsPlaced (sym is) (record { file = refl; generation = refl });
+      is = inl (record {
+        whole = was.whole;
+        kept = next_pages store.body next new was.kept;
+        stored = moved_on was.stored side;
+        sound = advance-sound was.kept was.stored store was.sound numbered replayed side next new made files (ap (λ (f : FilesState). f.number) is);
+        opened = λ still h. advance-open was.kept was.stored store was.sound numbered replayed side next new made old later files (was.opened going h) (done h);
+      });
+    }
+
+-- the tiers of a store are sound
+pub ready-tiers : (honest : Type 0) (past : List Event) (store : StoreState) → IsReady honest past store → AreSound store.tiers
+ready-tiers honest past store ready = elim ready.is as (λ _. AreSound store.tiers) [
+  | inl whole ↦ sound-tiers whole.kept whole.stored store whole.sound
+  | inr left ↦ left.tiers
+]
 
 -- no other is due: nothing was sealed after the last moment, and the journal is empty
 pub next-not-due : (honest : Type 0) (past : List Event) (tiers : TiersState) (store : StoreState) → store.tiers ≡ tiers → IsReady honest past store → store.body.last ≡ tiers.last
@@ -202,9 +223,9 @@ pub next-not-due : (honest : Type 0) (past : List Event) (tiers : TiersState) (s
 next-not-due honest past tiers store same ready last empty =
     let here : store.body.last ≡ store.tiers.last = last ∙ ap (λ (t : TiersState). t.last) (sym same) in
     let unsealed : has_sealed store.body.last store.tiers ≡ false =
-    ap (λ (m : ℕ). has_sealed m store.tiers) here ∙ sound-unsealed store.tiers (sound-tiers ready.kept ready.stored store ready.sound) in
+    ap (λ (m : ℕ). has_sealed m store.tiers) here ∙ sound-unsealed store.tiers (ready-tiers honest past store ready) in
     let short : nat_le (2 ^ 24) store.files.journal.bytes ≡ false = ap (nat_le (2 ^ 24)) empty in
-    and_right (is_numbered store.files.number) _ (or_from (has_sealed store.body.last store.tiers) _ unsealed short)
+    and_right (can_advance store) _ (or_from (has_sealed store.body.last store.tiers) _ unsealed short)
 
 -- ---- shares and faults
 
@@ -232,6 +253,8 @@ cause-of-files old new (files_faults.Damaged part) given is cause = record { lat
 cause-of-files old new files_faults.Memory given is cause = record { later = cause.later; failed = λ disk. absurd cc; stays = λ other. cause.stays (λ disk. absurd cc) }
 
 -- a store that is ready goes on from its body
-pub ready-goes : (honest : Type 0) (past : List Event) (store : StoreState) → IsReady honest past store → is_numbered store.files.number ≡ true
+pub ready-goes : (honest : Type 0) (past : List Event) (store : StoreState) → IsReady honest past store → can_advance store ≡ true
     → (kept : KeptPages) × (was : TiersState) × GoOnFrom store.body kept was store.tiers
-ready-goes honest past store ready numbered = (ready.kept, ready.stored.base.tiers, sound-goes ready.kept ready.stored store ready.sound numbered)
+ready-goes honest past store ready goes =
+    let is = whole-goes honest past store ready goes in
+    (is.kept, is.stored.base.tiers, sound-goes is.kept is.stored store is.sound (and_parts store.whole (is_numbered store.files.number) goes).1)

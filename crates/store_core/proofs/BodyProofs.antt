@@ -4,6 +4,7 @@ pub mod FirstLemmas
 pub mod GoingLemmas
 pub mod GoingTier
 pub mod HeldLemmas
+pub mod LeftLemmas
 pub mod NextLemmas
 pub mod NextTier
 pub mod OneLemmas

@@ -10,7 +10,7 @@ use Rattle.store_core.specs.disk.Contents.{KeptPages}
 use Rattle.store_core.specs.bodies.Next.{AreCounted, HaveCounted}
 use Rattle.store_core.specs.bodies.Segments.{first_number}
 use Rattle.store_core.specs.bodies.Tiers.{AreRecordTiers, AreTiersOfBody, IsRecordTier}
-use Rattle.store_core.specs.Damaged.{HasCounted}
+use Rattle.store_core.specs.bodies.Next.{HasCounted}
 use Rattle.store_core.proofs.BodyProofs.OneLemmas.{records-count, slots-count}
 
 -- there is an extent of each segment of a tier of records

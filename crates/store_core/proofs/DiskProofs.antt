@@ -5,6 +5,7 @@ pub mod ExtentLemmas
 pub mod FaultLemmas
 pub mod HoldLemmas
 pub mod ItemLemmas
+pub mod LeftLemmas
 pub mod ListLemmas
 pub mod MomentLemmas
 pub mod NamedLemmas

@@ -4,6 +4,7 @@ pub mod AnswerLemmas
 pub mod BeatProofs
 pub mod BodyProofs
 pub mod CountLemmas
+pub mod DamageLemmas
 pub mod DiskProofs
 pub mod FaultLemmas
 pub mod FollowLemmas

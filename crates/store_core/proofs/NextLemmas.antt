@@ -65,6 +65,10 @@ beats-after base [] followed = tt
 beats-after base (beat ∷ beats) followed =
     (beat-after (tiers_of (record { base = base; after = beats })).last beat followed.0.form followed.0.later, beats-after base beats followed.1)
 
+-- the tiers after one beat are sound
+pub sound-one : (tiers : TiersState) (beat : Beat) → AreSound tiers → InForm beat → is_later tiers.last beat.moment ≡ true → AreSound (after_beat beat.moment beat.points tiers)
+sound-one tiers beat sound form later = sound-all tiers (seen beat ∷ []) sound (beat-after tiers.last beat form later, tt)
+
 -- the tiers after the beats are sound
 pub sound-after : (base : Base) (after : List Beat) → AreSound base.tiers → HaveFollowed base after → AreSound (tiers_of (record { base = base; after = after }))
 sound-after base after sound followed = sound-all base.tiers (map seen after) sound (beats-after base after followed)

@@ -11,18 +11,18 @@ use Rattle.checkpoint_body.specs.declared.body.Body.{Body}
 use Rattle.store_core.specs.disk.Contents.{Contents, KeptPages}
 use Rattle.store_core.specs.disk.Files.{FilesState, IsOpenOf}
 use Rattle.store_core.specs.disk.Holds.{Holds}
-use Rattle.store_core.proofs.DiskProofs.OneLemmas.{never_damaged, one_contents, one_part}
+use Rattle.store_core.proofs.DamageLemmas.{form-undamaged, holds-files}
+use Rattle.store_core.proofs.DiskProofs.OneLemmas.{one_contents}
 use Rattle.store_core.specs.declared.beats.beat.Beat.{Beat}
 use Rattle.store_core.specs.beats.Records.{beats_from, with_all}
 use Rattle.store_core.specs.Counts.{counted}
 use Rattle.store_core.proofs.BeatProofs.RecordLaw.{oldest_first}
 use Rattle.store_core.specs.bodies.Tiers.{AreTiersOfBody}
 use Rattle.store_core.proofs.BodyProofs.WholeLemmas.{tiers-one}
-use Rattle.store_core.specs.Damaged.{HasBadPart, HasCounted, HasNoBeats, HasNoTiers, IsDamagedIn}
+use Rattle.store_core.specs.Damaged.{HasForm, IsDamagedIn}
 use Rattle.store_core.specs.Stands.{is_made, records_of, HasStored, Stands}
-use Rattle.store_core.specs.Store.{AreOpen, IsReady, IsReplayed, IsSound, IsStoreAt, IsStoreOf, StoreState}
+use Rattle.store_core.specs.Store.{AreOpen, IsLeft, IsReady, IsReplayed, IsSound, IsStoreAt, IsStoreOf, IsWhole, StoreState}
 use Rattle.store_core.specs.Stored.{advanced, count_of, is_numbered, next_base, stored_with_all, tiers_of, Stored}
-use Rattle.store_core.proofs.CountLemmas.{body-counted}
 use Rattle.store_core.proofs.RecordLemmas.{read-again}
 
 -- ---- what is stored
@@ -74,64 +74,20 @@ stands-made stored disk stands = is-made disk ∙ ap (λ (slot : Option Slot). i
 
 -- ---- no database where a part is damaged
 
--- contents whose counts are right, that have tiers and beats, have no bad part
-pub none-bad : (contents : Contents) → HasCounted contents.body → (tiers : TiersState) → AreTiersOfBody contents.body contents.kept tiers
-    → (beats : List Beat) → beats_from contents.body.last contents.records ≡ Some beats → (part : ℕ) → HasBadPart part contents → ⊥
-none-bad contents counts tiers of_body beats read zero bad = bad
-none-bad contents counts tiers of_body beats read (suc zero) bad = bad
-none-bad contents counts tiers of_body beats read (suc (suc zero)) bad = bad counts
-none-bad contents counts tiers of_body beats read (suc (suc (suc zero))) bad = bad.none tiers of_body
-none-bad contents counts tiers of_body beats read (suc (suc (suc (suc zero)))) bad = none-some beats (sym bad.none ∙ read)
-none-bad contents counts tiers of_body beats read (suc (suc (suc (suc (suc part))))) bad = bad
-
--- what the files of a database hold has no bad part
-pub never-bad : (part : ℕ) (contents : Contents) (stored : Stored) → HasStored contents stored → HasBadPart part contents → ⊥
-never-bad part contents stored has =
-    let order = oldest_first stored.after in
-    none-bad contents (body-counted contents.body contents.kept stored.base.tiers has.base.tiers has.base.counted) stored.base.tiers has.base.tiers order.rest
-    (records-read contents stored has order.rest order.whole) part
-
--- nor is a part of whole files damaged that hold this
-pub files-whole : (contents : Contents) (disk : File → List ℕ) → Holds contents disk → ((part : ℕ) → HasBadPart part contents → ⊥) → (part : ℕ) → IsDamagedIn part disk → ⊥
-files-whole contents disk holds none part (inl damaged) = never_damaged part contents disk holds damaged
-files-whole contents disk holds none part (inr found) = none part (subst (λ (c : Contents). HasBadPart part c) (one_contents found.contents contents disk found.holds holds) found.bad)
+-- the disk of a database has its form: the beats since the checkpoint, the oldest first
+pub stands-form : (stored : Stored) (disk : File → List ℕ) → (stands : Stands stored disk) → (rest : List Beat) → with_all [] rest ≡ stored.after
+    → HasForm stands.contents.body rest disk
+stands-form stored disk stands rest whole = record {
+  number = stands.contents.number;
+  records = stands.contents.records;
+  files = holds-files stands.contents disk stands.holds;
+  read = records-read stands.contents stored stands.has rest whole;
+}
 
 pub never-damaged : (part : ℕ) (stored : Stored) (disk : File → List ℕ) → Stands stored disk → IsDamagedIn part disk → ⊥
-never-damaged part stored disk stands = files-whole stands.contents disk stands.holds (λ p. never-bad p stands.contents stored stands.has) part
-
--- ---- one part is damaged at most
-
--- which part is bad, and how
-abbrev IsBad : ℕ → Contents → Type 0
-IsBad part contents = ((part ≡ 2) × (HasCounted contents.body → ⊥)) ⊎ ((part ≡ 3) × HasNoTiers contents) ⊎ ((part ≡ 4) × HasNoBeats contents)
-
-is-bad : (part : ℕ) (contents : Contents) → HasBadPart part contents → IsBad part contents
-is-bad zero contents bad = absurd bad
-is-bad (suc zero) contents bad = absurd bad
-is-bad (suc (suc zero)) contents bad = inl (refl, bad)
-is-bad (suc (suc (suc zero))) contents bad = inr (inl (refl, bad))
-is-bad (suc (suc (suc (suc zero)))) contents bad = inr (inr (refl, bad))
-is-bad (suc (suc (suc (suc (suc part))))) contents bad = absurd bad
-
-one-bad : (part other : ℕ) (contents : Contents) → IsBad part contents → IsBad other contents → part ≡ other
-one-bad part other contents (inl here) (inl there) = here.0 ∙ sym there.0
-one-bad part other contents (inl here) (inr (inl there)) = absurd (here.1 there.1.counted)
-one-bad part other contents (inl here) (inr (inr there)) = absurd (here.1 there.1.counted)
-one-bad part other contents (inr (inl here)) (inl there) = absurd (there.1 here.1.counted)
-one-bad part other contents (inr (inl here)) (inr (inl there)) = here.0 ∙ sym there.0
-one-bad part other contents (inr (inl here)) (inr (inr there)) = absurd (here.1.none there.1.tiers there.1.of_body)
-one-bad part other contents (inr (inr here)) (inl there) = absurd (there.1 here.1.counted)
-one-bad part other contents (inr (inr here)) (inr (inl there)) = absurd (there.1.none here.1.tiers here.1.of_body)
-one-bad part other contents (inr (inr here)) (inr (inr there)) = here.0 ∙ sym there.0
-
-pub one-damaged : (part other : ℕ) (disk : File → List ℕ) → IsDamagedIn part disk → IsDamagedIn other disk → part ≡ other
-one-damaged part other disk (inl here) (inl there) = one_part disk part other here there
-one-damaged part other disk (inl here) (inr there) = absurd (never_damaged part there.contents disk there.holds here)
-one-damaged part other disk (inr here) (inl there) = absurd (never_damaged other here.contents disk here.holds there)
-one-damaged part other disk (inr here) (inr there) =
-    let same = one_contents here.contents there.contents disk here.holds there.holds in
-    let bad = subst (λ (c : Contents). HasBadPart part c) same here.bad in
-    one-bad part other there.contents (is-bad part there.contents bad) (is-bad other there.contents there.bad)
+never-damaged part stored disk stands =
+    let order = oldest_first stored.after in
+    form-undamaged stands.contents.body order.rest disk (stands-form stored disk stands order.rest order.whole) part
 
 -- ---- stores
 
@@ -140,10 +96,10 @@ pub images-at : (past : List Event) (store : StoreState) (stored : Stored) (rest
     → EveryDisk (Stands (stored_with_all stored rest)) past
 images-at past store stored rest is_at disk images = record { contents = is_at.contents; holds = is_at.opened.holds disk images; has = is_at.has }
 
--- a ready store that has applied all beats is one of what is stored
-pub store-of : (past : List Event) (kept : KeptPages) (stored : Stored) (store : StoreState) → IsSound kept stored store → AreOpen past kept stored store → store.fault ≡ None
-    → IsReplayed store → IsStoreOf past store stored
-store-of past kept stored store sound are going replayed = record {
+-- a whole store that has applied all beats is one of what is stored
+pub store-of : (past : List Event) (kept : KeptPages) (stored : Stored) (store : StoreState) → store.whole ≡ true → IsSound kept stored store → AreOpen past kept stored store
+    → store.fault ≡ None → IsReplayed store → IsStoreOf past store stored
+store-of past kept stored store whole sound are going replayed = record {
   contents = are.contents;
   opened = are.opened;
   has = record {
@@ -165,19 +121,20 @@ store-of past kept stored store sound are going replayed = record {
   count = sound.count;
   tiers = sound.tiers;
   going = going;
+  whole = whole;
 }
 
 told-open : (sent : List ℕ) (past : List Event) (files : FilesState) (contents : Contents) → IsOpenOf past files contents → IsOpenOf (Told sent ∷ past) files contents
 told-open sent past files contents opened = record { number = opened.number; place = opened.place; journal = opened.journal; holds = opened.holds }
 
-pub told-ready : (honest : Type 0) (sent : List ℕ) (past : List Event) (store : StoreState) → IsReady honest past store → IsReady honest (Told sent ∷ past) store
-told-ready honest sent past store ready = record {
-  kept = ready.kept;
-  stored = ready.stored;
-  sound = ready.sound;
-  place = ready.place;
+told-whole : (honest : Type 0) (sent : List ℕ) (past : List Event) (store : StoreState) → IsWhole honest past store → IsWhole honest (Told sent ∷ past) store
+told-whole honest sent past store is = record {
+  whole = is.whole;
+  kept = is.kept;
+  stored = is.stored;
+  sound = is.sound;
   opened = λ going h.
-      let was = ready.opened going h in
+      let was = is.opened going h in
       record {
         contents = was.contents;
         opened = told-open sent past store.files was.contents was.opened;
@@ -185,6 +142,23 @@ told-ready honest sent past store ready = record {
         pages = was.pages;
         records = was.records;
       };
+}
+
+told-left : (honest : Type 0) (sent : List ℕ) (past : List Event) (store : StoreState) → IsLeft honest past store → IsLeft honest (Told sent ∷ past) store
+told-left honest sent past store is = record {
+  broken = is.broken;
+  tiers = is.tiers;
+  waiting = is.waiting;
+  opened = λ going h. let was = is.opened going h in record { records = was.records; is_open = was.is_open };
+}
+
+pub told-ready : (honest : Type 0) (sent : List ℕ) (past : List Event) (store : StoreState) → IsReady honest past store → IsReady honest (Told sent ∷ past) store
+told-ready honest sent past store ready = record {
+  place = ready.place;
+  is = elim ready.is as (λ _. IsWhole honest (Told sent ∷ past) store ⊎ IsLeft honest (Told sent ∷ past) store) [
+    | inl whole ↦ inl (told-whole honest sent past store whole)
+    | inr left ↦ inr (told-left honest sent past store left)
+  ];
 }
 
 pub told-at : (sent : List ℕ) (past : List Event) (store : StoreState) (stored : Stored) (rest : List Beat) → IsStoreAt past store stored rest
@@ -198,6 +172,7 @@ told-at sent past store stored rest is_at = record {
   count = is_at.count;
   tiers = is_at.tiers;
   going = is_at.going;
+  whole = is_at.whole;
 }
 
 -- ---- a checkpoint keeps what is stored

@@ -1,48 +1,43 @@
 -- Which part of a database is damaged.
-use Rattle.std.specs.Prelude.{◌≡◌, ◌⊎◌, ◌≤◌, ℕ, zero, suc, List, length, None}
+use Rattle.std.specs.Prelude.{◌≡◌, ℕ, zero, suc, List, Some}
 use Rattle.host_model.specs.declared.file.File.{File}
-use Rattle.beat_tiers.specs.State.{TiersState}
+use Rattle.journal_core.specs.Form.{StandsFor}
 use Rattle.checkpoint_body.specs.declared.body.Body.{Body}
-use Rattle.store_core.specs.disk.Contents.{Contents}
-use Rattle.store_core.specs.disk.Damaged.{IsDamagedAt}
-use Rattle.store_core.specs.disk.Holds.{Holds}
-use Rattle.store_core.specs.bodies.Tiers.{AreTiersOfBody}
+use Rattle.store_core.specs.declared.beats.beat.Beat.{Beat}
+use Rattle.store_core.specs.disk.Damaged.{HasBadBody, HasShortFile}
+use Rattle.store_core.specs.disk.Formed.{AreFormed, HasFiles}
+use Rattle.store_core.specs.disk.Holds.{journal_file, HasCheckpoint}
 use Rattle.store_core.specs.beats.Records.{beats_from}
 
--- a tier has sealed as many segments as it keeps, at least
-pub record HasCounted (body : Body) : Type 0 where
-  pub points : length body.points.extents ≤ body.points.sealed
-  pub minutes : length body.minutes.extents ≤ body.minutes.sealed
-  pub hours : length body.hours.extents ≤ body.hours.sealed
+-- The disk has the form of a database: this body, and behind it these beats, the oldest first. What the pages of the extents
+-- hold, and whether any beats leave that, is not asked.
+pub record HasForm (body : Body) (beats : List Beat) (disk : File → List ℕ) : Type 0 where
+  pub number : ℕ
+  pub records : List (List ℕ)
+  pub files : HasFiles number body records disk
+  pub read : beats_from body.last records ≡ Some beats
 
--- the counts are right, and the body and the pages of the extents are those of no tiers
-pub record HasNoTiers (contents : Contents) : Type 0 where
-  pub counted : HasCounted contents.body
-  pub none : (tiers : TiersState) → AreTiersOfBody contents.body contents.kept tiers → ⊥
+-- an extent that the body names has no slot of its own, or not its length, or its head or its directory is in no form
+pub record HasBadDirectory (disk : File → List ℕ) : Type 0 where
+  pub number : ℕ
+  pub body : Body
+  pub checkpoint : HasCheckpoint number body disk
+  pub unformed : AreFormed body disk → ⊥
 
--- there are tiers, and the records of the journal are no beats that follow the checkpoint
-pub record HasNoBeats (contents : Contents) : Type 0 where
-  pub counted : HasCounted contents.body
-  pub tiers : TiersState
-  pub of_body : AreTiersOfBody contents.body contents.kept tiers
-  pub none : beats_from contents.body.last contents.records ≡ None
-
--- What whole files hold is that of no database: the body names more extents than it says were sealed (2), there are no tiers
--- (3), or no beats (4).
-abbrev pub HasBadPart : ℕ → Contents → Type 0
-HasBadPart zero contents = ⊥
-HasBadPart (suc zero) contents = ⊥
-HasBadPart (suc (suc zero)) contents = HasCounted contents.body → ⊥
-HasBadPart (suc (suc (suc zero))) contents = HasNoTiers contents
-HasBadPart (suc (suc (suc (suc zero)))) contents = HasNoBeats contents
-HasBadPart (suc (suc (suc (suc (suc part))))) contents = ⊥
-
--- the files are whole, and this part of what they hold is bad
-pub record HoldsBadPart (part : ℕ) (disk : File → List ℕ) : Type 0 where
-  pub contents : Contents
-  pub holds : Holds contents disk
-  pub bad : HasBadPart part contents
+-- the extents are in their form, and the journal of the checkpoint's generation has no beats that follow the body
+pub record HasBadRecords (disk : File → List ℕ) : Type 0 where
+  pub number : ℕ
+  pub body : Body
+  pub checkpoint : HasCheckpoint number body disk
+  pub extents : AreFormed body disk
+  pub unread : (records : List (List ℕ)) (beats : List Beat) → StandsFor number (disk (journal_file number)) records
+      → beats_from body.last records ≡ Some beats → ⊥
 
 -- the part of this number is damaged: the checkpoint's file, its body, an extent, or the journal
 abbrev pub IsDamagedIn : ℕ → (File → List ℕ) → Type 0
-IsDamagedIn part disk = IsDamagedAt part disk ⊎ HoldsBadPart part disk
+IsDamagedIn zero disk = ⊥
+IsDamagedIn (suc zero) disk = HasShortFile disk
+IsDamagedIn (suc (suc zero)) disk = HasBadBody disk
+IsDamagedIn (suc (suc (suc zero))) disk = HasBadDirectory disk
+IsDamagedIn (suc (suc (suc (suc zero)))) disk = HasBadRecords disk
+IsDamagedIn (suc (suc (suc (suc (suc part))))) disk = ⊥

@@ -62,7 +62,7 @@ IsReadFault Memory = Unit {0}
 
 -- why a beat is not replayed
 abbrev pub IsReplayFault : StoreFault → Type 0
-IsReplayFault fault = (fault ≡ Memory) ⊎ (fault ≡ Damaged 4) ⊎ ((cause : Why) × (fault ≡ Reopen cause))
+IsReplayFault fault = (fault ≡ Memory) ⊎ ((cause : Why) × (fault ≡ Reopen cause))
 
 -- why a checkpoint is not made
 abbrev pub IsCheckpointFault : StoreFault → Type 0

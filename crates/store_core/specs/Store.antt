@@ -1,12 +1,13 @@
 -- What contracts see of a store, and of what a store is.
-use Rattle.std.specs.Prelude.{◌≡◌, ℕ, ◌^◌, Bool, ◌&&◌, ◌||◌, nat_le, List, [], ◌∷◌, Option, Some, None}
+use Rattle.std.specs.Prelude.{◌≡◌, ◌⊎◌, ℕ, ◌^◌, Bool, true, false, not, ◌&&◌, ◌||◌, nat_le, List, [], ◌∷◌, Option, Some, None}
 use Rattle.host_model.specs.Past.{Event}
 use Rattle.beat_tiers.specs.Beats.{TierBeat}
+use Rattle.beat_tiers.specs.Sound.{AreSound}
 use Rattle.beat_tiers.specs.State.{TiersState, after_beat}
 use Rattle.checkpoint_body.specs.declared.body.Body.{Body}
 use Rattle.checkpoint_body.specs.Body.{HasSpelling}
 use Rattle.store_core.specs.disk.Contents.{Contents, KeptPages}
-use Rattle.store_core.specs.disk.Files.{FilesState, IsOpenOf, IsPlaced}
+use Rattle.store_core.specs.disk.Files.{FilesState, IsJournalOpen, IsOpenOf, IsPlaced}
 use Rattle.store_core.specs.disk.Kept.{HasPagesOfEach}
 use Rattle.store_core.specs.bodies.Next.{HaveCounted}
 use Rattle.store_core.specs.bodies.Tiers.{AreTiersOfBody}
@@ -28,6 +29,8 @@ pub record StoreState : Type 0 where
   pub count : ℕ
   -- the first cause for which the store must be opened again
   pub fault : Option Why
+  -- whether the disk holds what beats leave: where it does not, no later checkpoint is made
+  pub whole : Bool
   -- the beats that are still to be applied, the oldest first
   pub waiting : List Beat
   -- what the tiers keep of the beats that were applied
@@ -37,13 +40,23 @@ pub record StoreState : Type 0 where
 abbrev pub IsReplayed : StoreState → Type 0
 IsReplayed store = store.waiting ≡ []
 
--- a segment was sealed since the checkpoint, where there can be a later one
-abbrev pub is_sealed : StoreState → Bool
-is_sealed store = is_numbered store.files.number && has_sealed store.body.last store.tiers
+-- there can be a later checkpoint
+abbrev pub can_advance : StoreState → Bool
+can_advance store = store.whole && is_numbered store.files.number
+
+-- no beat is left to be applied
+abbrev pub has_none : List Beat → Bool
+has_none [] = true
+has_none (beat ∷ beats) = false
+
+-- The disk still holds what beats leave once the next beat is applied: none waits behind one that sealed a segment, where there
+-- can be a later checkpoint.
+abbrev pub stays_whole : StoreState → Bool
+stays_whole store = store.whole && (has_none store.waiting || not (can_advance store && has_sealed store.body.last store.tiers))
 
 -- a checkpoint is due: a segment was sealed since the last one, or the journal has 2^24 bytes, and there can be a later one
 abbrev pub is_due : StoreState → Bool
-is_due store = is_numbered store.files.number && (has_sealed store.body.last store.tiers || nat_le LONG_JOURNAL store.files.journal.bytes)
+is_due store = can_advance store && (has_sealed store.body.last store.tiers || nat_le LONG_JOURNAL store.files.journal.bytes)
 
 -- ---- a store of what is stored
 
@@ -57,6 +70,7 @@ pub record IsStoreAt (past : List Event) (store : StoreState) (stored : Stored) 
   pub count : store.count ≡ count_of stored
   pub tiers : store.tiers ≡ tiers_of stored
   pub going : store.fault ≡ None
+  pub whole : store.whole ≡ true
 
 -- the store has applied all that is stored
 abbrev pub IsStoreOf : List Event → StoreState → Stored → Type 0
@@ -119,11 +133,23 @@ pub record AreOpen (past : List Event) (kept : KeptPages) (stored : Stored) (sto
   pub pages : contents.kept ≡ kept
   pub records : contents.records ≡ records_of (stored_with_all stored store.waiting).after
 
--- What a call of a store requires of its host: it holds after `open` of every image. The store is of what is stored as far as
--- it has applied it.
-pub record IsReady (honest : Type 0) (past : List Event) (store : StoreState) : Type 0 where
+-- the store is of what is stored as far as it has applied it
+pub record IsWhole (honest : Type 0) (past : List Event) (store : StoreState) : Type 0 where
+  pub whole : store.whole ≡ true
   pub kept : KeptPages
   pub stored : Stored
   pub sound : IsSound kept stored store
-  pub place : IsPlaced store.files
   pub opened : store.fault ≡ None → honest → AreOpen past kept stored store
+
+-- The store is of a disk that has the form of a database, and holds what no beats leave. Its tiers are sound all the same, and
+-- the beats that wait might follow.
+pub record IsLeft (honest : Type 0) (past : List Event) (store : StoreState) : Type 0 where
+  pub broken : store.whole ≡ false
+  pub tiers : AreSound store.tiers
+  pub waiting : AreNext store.tiers.last store.waiting
+  pub opened : store.fault ≡ None → honest → IsJournalOpen past store.files
+
+-- what a call of a store requires of its host: it holds after `open` of every image
+pub record IsReady (honest : Type 0) (past : List Event) (store : StoreState) : Type 0 where
+  pub place : IsPlaced store.files
+  pub is : IsWhole honest past store ⊎ IsLeft honest past store

@@ -4,6 +4,7 @@ pub mod Contents
 pub mod Damaged
 pub mod Faults
 pub mod Files
+pub mod Formed
 pub mod Holds
 pub mod Kept
 pub mod Next

@@ -6,8 +6,8 @@
 //!
 //! It is proved that the tiers that come back are sound and are those of the body and the pages;
 //! that `None` comes back only where the body and the pages are those of no tiers; and that they are
-//! those of one list of tiers at most. So a database whose body or pages do not agree is refused,
-//! and none that has tiers is.
+//! those of one list of tiers at most. `left_tiers` makes tiers of any body and whatever the pages
+//! hold: those of what can be read of them. It is proved that they are sound.
 //!
 //! `first_body` makes the body of a database of no beats. It is proved that it has a spelling, that
 //! it names no extent, and that its tiers are those of no beats.
@@ -26,6 +26,9 @@ mod first;
 mod kept_items;
 mod kept_segments;
 mod kept_tiers;
+mod left;
+mod left_items;
+mod left_segments;
 mod next;
 mod next_extents;
 mod next_points;
@@ -35,6 +38,7 @@ mod sound;
 mod tiers;
 
 pub use first::first_body;
+pub use left::left_tiers;
 pub use next::next_body;
 pub use next_extents::sealed_after;
 pub use tiers::{body_determines_its_tiers, tiers_of};

@@ -10,8 +10,8 @@ ghost use Rattle.store_core.specs.disk.Shares.{share, IsWithin};
 ghost use Rattle.store_core.specs.Faults.{fault_after, IsStepFault, LeavesAll, Reopens};
 ghost use Rattle.store_core.specs.Faults.{IsCheckpointFault};
 ghost use Rattle.store_core.specs.Stands.{StandsEither};
-ghost use Rattle.store_core.specs.Store.{is_due, IsReady, IsReplayed, IsStoreOf};
-ghost use Rattle.store_core.specs.Stored.{advanced, is_numbered, Stored as AStored};
+ghost use Rattle.store_core.specs.Store.{can_advance, is_due, IsReady, IsReplayed, IsStoreOf};
+ghost use Rattle.store_core.specs.Stored.{advanced, Stored as AStored};
 
 use crate::bodies::next_body;
 use crate::fault::StoreFault;
@@ -44,7 +44,8 @@ impl Store {
         ensures count { self.new.count ≡ self.old.count }
         ensures waiting { self.new.waiting ≡ self.old.waiting }
         ensures settings { self.new.body.settings ≡ self.old.body.settings }
-        ensures side { OnOk result (is_numbered self.old.files.number ≡ true
+        ensures whole { self.new.whole ≡ self.old.whole }
+        ensures side { OnOk result (can_advance self.old ≡ true
             → self.new.body.side ≡ side) }
         ensures not_due { OnOk result (is_due self.new ≡ false) }
         ensures ready { IsReady H.honest (H.seen host.new).past self.new }
@@ -56,7 +57,7 @@ impl Store {
         ensures reopens { Reopens self.old.fault result }
         ensures unchanged { IfErr result
             (λ fault. LeavesAll fault → (self.new ≡ self.old) × (host.new ≡ host.old)) }
-        ensures last_number { is_numbered self.old.files.number ≡ false
+        ensures last_number { can_advance self.old ≡ false
             → (self.new ≡ self.old) × (host.new ≡ host.old) }
         ensures faults { IfErr result IsCheckpointFault }
 
@@ -73,7 +74,7 @@ impl Store {
         if let Some(why) = self.fault {
             return Err(StoreFault::Reopen(why));
         }
-        if !self.is_numbered() {
+        if !self.can_advance() {
             return Ok(());
         }
         match self.advance(host, side) {
@@ -90,7 +91,7 @@ impl Store {
         requires ready { IsReady H.honest (H.seen host.old).past self.old }
         requires going { self.old.fault ≡ None }
         requires replayed { IsReplayed self.old }
-        requires numbered { is_numbered self.old.files.number ≡ true }
+        requires going_on { can_advance self.old ≡ true }
         requires short { length side < 2 ^ 32 }
         ensures any_moment { H.honest → (stored : AStored)
             → IsStoreOf (H.seen host.old).past self.old stored

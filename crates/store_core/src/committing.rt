@@ -12,8 +12,8 @@ ghost use Rattle.store_core.specs.Faults.{fault_after, IsCommitFault, IsStepFaul
 ghost use Rattle.store_core.specs.beats.Records.{is_later};
 ghost use Rattle.store_core.specs.Counts.{raised};
 ghost use Rattle.store_core.specs.Stands.{StandsAround};
-ghost use Rattle.store_core.specs.Store.{is_due, IsReady, IsReplayed, IsStoreOf};
-ghost use Rattle.store_core.specs.Stored.{is_numbered, stored_with, Stored as AStored};
+ghost use Rattle.store_core.specs.Store.{can_advance, is_due, IsReady, IsReplayed, IsStoreOf};
+ghost use Rattle.store_core.specs.Stored.{stored_with, Stored as AStored};
 
 use crate::beats::{Beat, is_later, write_beat};
 use crate::fault::StoreFault;
@@ -68,9 +68,10 @@ impl Store {
             ≡ after_beat beat.now.moment beat.now.points self.old.tiers) }
         ensures count { OnOk result (self.new.count ≡ raised self.old.count) }
         ensures body { self.new.body ≡ self.old.body }
+        ensures whole { self.new.whole ≡ self.old.whole }
 
         // The journal stays within its share, where there can be a later checkpoint.
-        ensures bound { (side : ℕ) → is_numbered self.old.files.number ≡ true → H.honest
+        ensures bound { (side : ℕ) → can_advance self.old ≡ true → H.honest
             → IsWithin (share self.old.body.settings side) (H.seen host.old).past
             → Throughout (IsWithin (share self.old.body.settings side)) (H.seen host.old).past
             (H.seen host.new).past }
@@ -119,7 +120,7 @@ impl Store {
           files = self.new.files;
         }) }
         ensures stays { OnErr result (self.new ≡ self.old) }
-        ensures bound { (side : ℕ) → is_numbered self.old.files.number ≡ true → H.honest
+        ensures bound { (side : ℕ) → can_advance self.old ≡ true → H.honest
             → IsWithin (share self.old.body.settings side) (H.seen host.old).past
             → Throughout (IsWithin (share self.old.body.settings side)) (H.seen host.old).past
             (H.seen host.new).past }

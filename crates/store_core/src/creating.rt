@@ -97,6 +97,7 @@ impl Store {
             body,
             count: 0,
             fault: None,
+            whole: true,
             waiting: Waiting::new(alloc),
             tiers,
         })

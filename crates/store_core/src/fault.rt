@@ -74,10 +74,3 @@ impl From<FilesFault> for StoreFault {
         }
     }
 }
-
-/// What a fault of the files is of the store.
-pub(crate) fn of_files(fault: FilesFault) -> StoreFault
-    ensures { result ≡ fault_of_files fault }
-{
-    StoreFault::from(fault)
-}

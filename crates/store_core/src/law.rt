@@ -14,12 +14,12 @@ ghost use Rattle.host_model.specs.Past.{Event, Told};
 ghost use Rattle.store_core.specs.declared.beats.beat.Beat.{Beat as ABeat};
 ghost use Rattle.store_core.specs.Damaged.{IsDamagedIn};
 ghost use Rattle.store_core.specs.Stands.{is_made, Stands};
-ghost use Rattle.store_core.specs.Store.{HasApplied, IsReady, IsReplayed, IsStoreAt, IsStoreOf, StoreState};
+ghost use Rattle.store_core.specs.Store.{HasApplied, IsReady, IsReplayed, IsStoreAt, IsStoreOf, IsWhole, StoreState};
 ghost use Rattle.store_core.specs.Stored.{advanced, count_of, new_database, next_base, tiers_of, HaveFollowed, IsBaseOf, Stored as AStored};
 
 /// Laws of databases, for any disk and any store; the call does nothing. A disk holds one database
 /// at most, and none where a part of it is damaged as `open` tells, which is one part then. A store
-/// that is ready, was not refused and has applied all beats is one of what is stored. That is what each crash
+/// that is whole, was not refused and has applied all beats is one of what is stored. That is what each crash
 /// leaves, and telling changes nothing of it. A checkpoint keeps what is stored: the count and what
 /// the tiers have.
 pub fn one_disk_holds_one_database()
@@ -31,9 +31,9 @@ pub fn one_disk_holds_one_database()
         → IsDamagedIn part disk → ⊥ }
     ensures one_part { (part other : ℕ) (disk : AFile → List ℕ) → IsDamagedIn part disk
         → IsDamagedIn other disk → part ≡ other }
-    ensures ready { (past : List Event) (store : StoreState)
-        → (ready : IsReady (Unit {0}) past store) → store.fault ≡ None → IsReplayed store
-        → IsStoreOf past store ready.stored }
+    ensures whole_store { (past : List Event) (store : StoreState)
+        → (whole : IsWhole (Unit {0}) past store) → store.fault ≡ None → IsReplayed store
+        → IsStoreOf past store whole.stored }
     ensures told_ready { (sent : List ℕ) (past : List Event) (store : StoreState)
         → IsReady (Unit {0}) past store → IsReady (Unit {0}) (Told sent ∷ past) store }
     ensures images { (past : List Event) (store : StoreState) (stored : AStored)

@@ -5,14 +5,15 @@
 //! by them, with a new side, and so bounds the journal. A disk holds one database at most.
 //!
 //! Over an honest host a crash leaves at every moment of `commit` what was stored, with the new beat or without it, and
-//! at `Ok` with it; of `checkpoint` what was stored, with the old base or with the new one, and at `Ok` with the new, where there can be a
-//! later checkpoint; of
-//! `create` what it might have left before, no database, or the new one. `open` gives just what is on the disk, or says
-//! that there is none or which part is damaged. `replay` then gives the beats since; where one stands behind a beat that
-//! sealed a segment, as no database has it, it says that the journal is damaged. No other file is touched, and each file
-//! stays within its share while there can be a later checkpoint. Once `commit`, `checkpoint` or `replay` had `DiskFault` or
-//! `Memory`, these, `kept` and `kept_above` give the first cause. Until then `floor`, `kept`, `kept_above` and a `StoreView` answer by the definition over all beats,
-//! those of the base too.
+//! at `Ok` with it; of `checkpoint` what was stored, with the old base or with the new one, and at `Ok` with the new,
+//! where there can be a later checkpoint; of `create` what it might have left before, no database, or the new one.
+//! `open` gives just what is on the disk where beats leave that, and else what is left of a disk in form; or it says
+//! that there is no database, or which part is not in its form. `replay` then gives the beats since. Where no beats
+//! leave what was opened, or one stands behind a beat that sealed a segment, no later checkpoint is made. No other file
+//! is touched, and each file stays within its share while there can be a later checkpoint. Once `commit`, `checkpoint`
+//! or `replay` had `DiskFault` or `Memory`, these, `kept` and `kept_above` give the first cause. Until then `floor`,
+//! `kept`, `kept_above` and a `StoreView` of a database of beats answer by the definition over all of them, those of the
+//! base too.
 //!
 //! Below the store are four modules, each on those before it: `beats` has the records of beats, `disk` the files,
 //! `pages` the items of a tier as pages, and `bodies` the tiers of a checkpoint. The crate stands on `checkpoint`,

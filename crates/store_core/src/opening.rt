@@ -11,8 +11,9 @@ ghost use Rattle.host_model.specs.Past.{IsDisk};
 ghost use Rattle.beat_tiers.specs.Room.{tiers_held};
 ghost use Rattle.checkpoint_body.specs.Body.{HasSpelling};
 ghost use Rattle.store_core.specs.disk.Contents.{Contents};
-ghost use Rattle.store_core.specs.disk.Damaged.{IsDamagedAt};
 ghost use Rattle.store_core.specs.disk.Files.{IsOpenOf, IsPlaced};
+ghost use Rattle.store_core.specs.disk.Files.{IsReady as FilesAreReady};
+ghost use Rattle.store_core.specs.disk.Formed.{HasFiles};
 ghost use Rattle.store_core.specs.disk.Holds.{Holds, OnlyOwn};
 ghost use Rattle.store_core.specs.disk.Kept.{HasPagesOfEach};
 ghost use Rattle.store_core.specs.disk.Opened.{contents_of};
@@ -20,20 +21,22 @@ ghost use Rattle.store_core.specs.disk.Opening.{OnlySyncs};
 ghost use Rattle.store_core.specs.disk.Shares.{IsWithin};
 ghost use Rattle.store_core.specs.beats.Records.{beats_from};
 ghost use Rattle.store_core.specs.bodies.Tiers.{AreTiersOfBody};
-ghost use Rattle.store_core.specs.Damaged.{HasBadPart, HasCounted, IsDamagedIn};
+ghost use Rattle.store_core.specs.bodies.Next.{HasCounted};
+ghost use Rattle.store_core.specs.Damaged.{HasForm, IsDamagedIn};
 ghost use Rattle.store_core.specs.Faults.{IsOpenFault, IsReadFault};
-ghost use Rattle.store_core.specs.Stands.{is_made, Stands};
+ghost use Rattle.store_core.specs.Stands.{is_made, HasStored, Stands};
 ghost use Rattle.store_core.specs.Store.{IsReady, OpensAt};
 ghost use Rattle.store_core.specs.Stored.{Stored as AStored};
 
 use crate::beats::{Waiting, read_beats};
-use crate::bodies::tiers_of;
-use crate::disk::Opened;
+use crate::bodies::{left_tiers, tiers_of};
 use crate::disk::fault::{BODY_PART, EXTENT_PART, JOURNAL_PART};
-use crate::fault::{StoreFault, of_files};
+use crate::disk::{Left, Opened};
+use crate::fault::StoreFault;
 use crate::store::Store;
 use beat_tiers::Tiers;
 use checkpoint_body::Body;
+use fixed_num::ByteList;
 use host_model::Host;
 use std::alloc::Global;
 
@@ -53,8 +56,8 @@ fn read_tiers(alloc: Global, opened: &Opened) -> Result<Tiers, StoreFault>
     ensures counted { OnOk result (HasCounted opened.now.body) }
     ensures tiers { IfOk result (λ tiers. AreTiersOfBody opened.now.body
         (contents_of opened.now).kept (tiers_held tiers)) }
-    ensures damaged { (part : ℕ) → IsErrOf result (StoreFault.Damaged part)
-        → (part < 4) × HasBadPart part (contents_of opened.now) }
+    ensures broken { (part : ℕ) → IsErrOf result (StoreFault.Damaged part) → (stored : AStored)
+        → HasStored (contents_of opened.now) stored → ⊥ }
     ensures faults { IfErr result IsReadFault }
 {
     if !has_counted(&opened.body) {
@@ -63,6 +66,21 @@ fn read_tiers(alloc: Global, opened: &Opened) -> Result<Tiers, StoreFault>
     match tiers_of(alloc, opened) {
         Ok(Some(tiers)) => Ok(tiers),
         Ok(None) => Err(StoreFault::Damaged(EXTENT_PART)),
+        Err(_) => Err(StoreFault::Memory),
+    }
+}
+
+/// The beats of the records of a journal, behind a checkpoint with this last moment.
+fn read_waiting(alloc: Global, last: u32, records: &[ByteList]) -> Result<Waiting, StoreFault>
+    ensures beats { IfOk result (λ found. beats_from last records.now ≡ Some found) }
+    ensures bytes { OnOk result (AllByRecursion IsBytes records.now) }
+    ensures damaged { (part : ℕ) → IsErrOf result (StoreFault.Damaged part)
+        → (part ≡ 4) × (beats_from last records.now ≡ None) }
+    ensures faults { IfErr result IsReadFault }
+{
+    match read_beats(alloc, last, records) {
+        Ok(Some(waiting)) => Ok(waiting),
+        Ok(None) => Err(StoreFault::Damaged(JOURNAL_PART)),
         Err(_) => Err(StoreFault::Memory),
     }
 }
@@ -77,16 +95,13 @@ fn read_all(alloc: Global, opened: &Opened) -> Result<(Tiers, Waiting), StoreFau
     ensures beats { IfOk result (λ found.
         beats_from opened.now.body.last opened.now.records ≡ Some found.1) }
     ensures bytes { OnOk result (AllByRecursion IsBytes opened.now.records) }
-    ensures damaged { (part : ℕ) → IsErrOf result (StoreFault.Damaged part)
-        → HasBadPart part (contents_of opened.now) }
+    ensures broken { (part : ℕ) → IsErrOf result (StoreFault.Damaged part) → (stored : AStored)
+        → HasStored (contents_of opened.now) stored → ⊥ }
     ensures faults { IfErr result IsReadFault }
 {
     let tiers = read_tiers(alloc, opened)?;
-    match read_beats(alloc, opened.body.last, opened.records.as_slice()) {
-        Ok(Some(waiting)) => Ok((tiers, waiting)),
-        Ok(None) => Err(StoreFault::Damaged(JOURNAL_PART)),
-        Err(_) => Err(StoreFault::Memory),
-    }
+    let waiting = read_waiting(alloc, opened.body.last, opened.records.as_slice())?;
+    Ok((tiers, waiting))
 }
 
 /// Opens the files of a database.
@@ -102,8 +117,6 @@ fn open_files<H: Host>(alloc: Global, host: &mut H) -> Result<Opened, StoreFault
     ensures none { IsErrOf result StoreFault.NotADatabase → H.honest
         → is_made (reads_as (H.seen host.old).past) ≡ false }
     ensures some { OnOk result (H.honest → is_made (reads_as (H.seen host.old).past) ≡ true) }
-    ensures damaged { (part : ℕ) → IsErrOf result (StoreFault.Damaged part) → H.honest
-        → IsDamagedAt part (reads_as (H.seen host.old).past) }
     ensures complete { H.honest → (contents : Contents)
         → Holds contents (reads_as (H.seen host.old).past)
         → IfErr result (λ fault. (fault ≡ StoreFault.DiskFault) ⊎ (fault ≡ StoreFault.Memory)) }
@@ -113,10 +126,100 @@ fn open_files<H: Host>(alloc: Global, host: &mut H) -> Result<Opened, StoreFault
         (IsErrOf result StoreFault.DiskFault) }
     ensures output { (H.seen host.new).tell_faults ≡ (H.seen host.old).tell_faults }
 {
-    match crate::disk::open(alloc, host) {
-        Ok(opened) => Ok(opened),
-        Err(fault) => Err(of_files(fault)),
-    }
+    Ok(crate::disk::open(alloc, host)?)
+}
+
+/// Opens a database whose disk holds what beats leave. It is refused as damaged where the disk
+/// does not.
+fn open_whole<H: Host>(alloc: Global, host: &mut H) -> Result<Store, StoreFault>
+    ensures opened { IfOk result (λ store. H.honest → (stored : AStored)
+        → Stands stored (reads_as (H.seen host.old).past)
+        → OpensAt (H.seen host.new).past store stored) }
+    ensures ready { IfOk result (IsReady H.honest (H.seen host.new).past) }
+    ensures going { IfOk result (λ store. store.fault ≡ None) }
+    ensures count { IfOk result (λ store. store.count ≡ store.body.count) }
+    ensures last { IfOk result (λ store. store.tiers.last ≡ store.body.last) }
+    ensures form { IfOk result (λ store. H.honest
+        → HasForm store.body store.waiting (reads_as (H.seen host.old).past)) }
+    ensures none { IsErrOf result StoreFault.NotADatabase → H.honest
+        → is_made (reads_as (H.seen host.old).past) ≡ false }
+    ensures complete { H.honest → (stored : AStored)
+        → Stands stored (reads_as (H.seen host.old).past)
+        → IfErr result (λ fault. (fault ≡ StoreFault.DiskFault)
+        ⊎ (fault ≡ StoreFault.Memory)) }
+    ensures faults { IfErr result IsOpenFault }
+    ensures syncs { H.honest → OnlySyncs (H.seen host.old).past (H.seen host.new).past }
+    ensures cause { HasCause (H.seen host.old).disk_faults (H.seen host.new).disk_faults
+        (IsErrOf result StoreFault.DiskFault) }
+    ensures output { (H.seen host.new).tell_faults ≡ (H.seen host.old).tell_faults }
+{
+    let opened = open_files(alloc, host)?;
+    let (tiers, waiting) = read_all(alloc, &opened)?;
+    Ok(Store {
+        alloc,
+        files: opened.files,
+        count: opened.body.count,
+        body: opened.body,
+        fault: None,
+        whole: true,
+        waiting,
+        tiers,
+    })
+}
+
+/// The files of a database, and what is left in its extents.
+fn left_files<H: Host>(alloc: Global, host: &mut H) -> Result<Left, StoreFault>
+    ensures formed { IfOk result (λ left. H.honest → HasFiles left.files.number left.body
+        left.records (reads_as (H.seen host.old).past)) }
+    ensures spelt { IfOk result (λ left. HasSpelling left.body) }
+    ensures ready { IfOk result
+        (λ left. FilesAreReady H.honest (H.seen host.new).past left.files) }
+    ensures none { IsErrOf result StoreFault.NotADatabase → H.honest
+        → is_made (reads_as (H.seen host.old).past) ≡ false }
+    ensures damaged { (part : ℕ) → IsErrOf result (StoreFault.Damaged part) → H.honest
+        → IsDamagedIn part (reads_as (H.seen host.old).past) }
+    ensures faults { IfErr result IsOpenFault }
+    ensures syncs { H.honest → OnlySyncs (H.seen host.old).past (H.seen host.new).past }
+    ensures cause { HasCause (H.seen host.old).disk_faults (H.seen host.new).disk_faults
+        (IsErrOf result StoreFault.DiskFault) }
+    ensures output { (H.seen host.new).tell_faults ≡ (H.seen host.old).tell_faults }
+{
+    Ok(crate::disk::open_left(alloc, host)?)
+}
+
+/// Opens a database whatever the pages of its extents hold. No later checkpoint of it is made.
+fn open_left<H: Host>(alloc: Global, host: &mut H) -> Result<Store, StoreFault>
+    ensures ready { IfOk result (IsReady H.honest (H.seen host.new).past) }
+    ensures going { IfOk result (λ store. store.fault ≡ None) }
+    ensures count { IfOk result (λ store. store.count ≡ store.body.count) }
+    ensures last { IfOk result (λ store. store.tiers.last ≡ store.body.last) }
+    ensures form { IfOk result (λ store. H.honest
+        → HasForm store.body store.waiting (reads_as (H.seen host.old).past)) }
+    ensures none { IsErrOf result StoreFault.NotADatabase → H.honest
+        → is_made (reads_as (H.seen host.old).past) ≡ false }
+    ensures damaged { (part : ℕ) → IsErrOf result (StoreFault.Damaged part) → H.honest
+        → IsDamagedIn part (reads_as (H.seen host.old).past) }
+    ensures faults { IfErr result IsOpenFault }
+    ensures syncs { H.honest → OnlySyncs (H.seen host.old).past (H.seen host.new).past }
+    ensures cause { HasCause (H.seen host.old).disk_faults (H.seen host.new).disk_faults
+        (IsErrOf result StoreFault.DiskFault) }
+    ensures output { (H.seen host.new).tell_faults ≡ (H.seen host.old).tell_faults }
+{
+    let left = left_files(alloc, host)?;
+    let waiting = read_waiting(alloc, left.body.last, left.records.as_slice())?;
+    let Ok(tiers) = left_tiers(alloc, &left) else {
+        return Err(StoreFault::Memory);
+    };
+    Ok(Store {
+        alloc,
+        files: left.files,
+        count: left.body.count,
+        body: left.body,
+        fault: None,
+        whole: false,
+        waiting,
+        tiers,
+    })
 }
 
 impl Store {
@@ -124,8 +227,10 @@ impl Store {
     /// applied yet. The disk is only read and synced, and whatever a crash leaves from then on
     /// holds what was stored.
     ///
-    /// `NotADatabase` where there is no checkpoint, and `Damaged` with the part that is none: 1 the
-    /// checkpoint's file, 2 its body, 3 an extent, 4 the journal.
+    /// `NotADatabase` where there is no checkpoint, and `Damaged` with the first part that is not in
+    /// its form: 1 the checkpoint's file, 2 its body, 3 an extent's slot, length, head or directory,
+    /// 4 the journal. A disk that is in form and holds what no beats leave is opened too: what its
+    /// pages do not say is left out, and no later checkpoint of it is made.
     pub fn open<H: Host>(alloc: Global, host: &mut H) -> Result<Store, StoreFault>
         ensures opened { IfOk result (λ store. H.honest → (stored : AStored)
             → Stands stored (reads_as (H.seen host.old).past)
@@ -145,18 +250,22 @@ impl Store {
             → Throughout (IsWithin shares) (H.seen host.old).past (H.seen host.new).past }
         ensures only_here { H.honest → OnlyOwn (H.seen host.old).past (H.seen host.new).past }
 
+        // It is opened exactly where the disk is in the form of a database, but for the disk and
+        // memory.
         ensures none { IsErrOf result StoreFault.NotADatabase → H.honest
             → is_made (reads_as (H.seen host.old).past) ≡ false }
         ensures some { OnOk result (H.honest → is_made (reads_as (H.seen host.old).past) ≡ true) }
-        ensures images { OnOk result (H.honest → (stored : AStored)
-            → Stands stored (reads_as (H.seen host.old).past)
-            → EveryDisk (Stands stored) (H.seen host.new).past) }
+        ensures form { IfOk result (λ store. H.honest
+            → HasForm store.body store.waiting (reads_as (H.seen host.old).past)) }
         ensures damaged { (part : ℕ) → IsErrOf result (StoreFault.Damaged part) → H.honest
             → IsDamagedIn part (reads_as (H.seen host.old).past) }
         ensures whole { OnOk result (H.honest → (part : ℕ)
             → IsDamagedIn part (reads_as (H.seen host.old).past) → ⊥) }
 
         // A database of beats is opened, but for the disk and memory.
+        ensures images { OnOk result (H.honest → (stored : AStored)
+            → Stands stored (reads_as (H.seen host.old).past)
+            → EveryDisk (Stands stored) (H.seen host.new).past) }
         ensures complete { H.honest → (stored : AStored)
             → Stands stored (reads_as (H.seen host.old).past)
             → IfErr result (λ fault. (fault ≡ StoreFault.DiskFault)
@@ -166,16 +275,10 @@ impl Store {
             (IsErrOf result StoreFault.DiskFault) }
         ensures output { (H.seen host.new).tell_faults ≡ (H.seen host.old).tell_faults }
     {
-        let opened = open_files(alloc, host)?;
-        let (tiers, waiting) = read_all(alloc, &opened)?;
-        Ok(Store {
-            alloc,
-            files: opened.files,
-            count: opened.body.count,
-            body: opened.body,
-            fault: None,
-            waiting,
-            tiers,
-        })
+        match open_whole(alloc, host) {
+            Ok(store) => Ok(store),
+            Err(StoreFault::Damaged(_)) => open_left(alloc, host),
+            Err(fault) => Err(fault),
+        }
     }
 }

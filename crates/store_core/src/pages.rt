@@ -23,3 +23,4 @@ mod sorting;
 pub use law::pages_determine_their_items;
 pub use records::{items_of_records, record_pages_of};
 pub use slots::{items_of_slots, slot_pages_of};
+pub(crate) use sorting::sorted_by_place;

@@ -1,19 +1,17 @@
 //! The beats since the checkpoint are applied.
 
-ghost use Rattle.std.specs.Prelude.{◌≡◌, ◌≢◌, true, List, [], ◌∷◌, IfErr, IfOk, IsErrOf, OnErr, OnOk};
+ghost use Rattle.std.specs.Prelude.{◌≡◌, List, ◌∷◌, IfErr, IfOk, OnErr, OnOk};
 ghost use Rattle.host_model.specs.Past.{Event};
 ghost use Rattle.beat_tiers.specs.Room.{tiers_held, HasRoomFor};
-ghost use Rattle.store_core.specs.disk.Contents.{KeptPages};
 ghost use Rattle.store_core.specs.declared.beats.beat.Beat.{Beat as ABeat};
 ghost use Rattle.store_core.specs.Faults.{fault_after, Reopens};
 ghost use Rattle.store_core.specs.beats.Records.{TakesFirst};
 ghost use Rattle.store_core.specs.Store.{tiers_after};
 ghost use Rattle.store_core.specs.Faults.{IsReplayFault};
-ghost use Rattle.store_core.specs.Store.{count_after, is_sealed, IsSound, IsStoreAt, Replays};
-ghost use Rattle.store_core.specs.Stored.{stored_after, Stored as AStored};
+ghost use Rattle.store_core.specs.Store.{count_after, stays_whole, IsStoreAt, Replays};
+ghost use Rattle.store_core.specs.Stored.{Stored as AStored};
 
 use crate::beats::{Beat, Waiting};
-use crate::disk::fault::JOURNAL_PART;
 use crate::fault::{StoreFault, Why};
 use crate::store::Store;
 use beat_tiers::Tiers;
@@ -35,26 +33,19 @@ impl Store {
     /// Gives the next beat that was there at the opening, and applies it: `None` where all are
     /// applied.
     ///
-    /// `Damaged(4)` where it stands behind a beat that sealed a segment, as no database of beats
-    /// has it; then nothing has changed. `Memory` comes before anything is applied; after it the
-    /// database must be opened again.
+    /// Where it stands behind a beat that sealed a segment, as beats leave none, no later checkpoint
+    /// is made. `Memory` comes before anything is applied; after it the database must be opened
+    /// again.
     pub fn replay(&mut self) -> Result<Option<Beat>, StoreFault>
         ensures next { (past : List Event) (stored : AStored) (rest : List ABeat)
             → IsStoreAt past self.old stored rest
             → IfOk result (Replays past self.new stored rest) }
 
-        // A database of beats is not damaged.
-        ensures whole { (past : List Event) (stored : AStored) (rest : List ABeat)
-            → IsStoreAt past self.old stored rest → IsErrOf result (StoreFault.Damaged 4) → ⊥ }
-        ensures damaged { IsErrOf result (StoreFault.Damaged 4)
-            → (is_sealed self.old ≡ true) × (self.old.waiting ≢ []) }
-
         // The same, of a store of which it is not known what it has stored.
         ensures takes { IfOk result (λ next. TakesFirst self.old.waiting next self.new.waiting) }
         ensures tiers { IfOk result (λ next. self.new.tiers ≡ tiers_after next self.old.tiers) }
         ensures count { IfOk result (λ next. self.new.count ≡ count_after next self.old.count) }
-        ensures sound { (kept : KeptPages) (stored : AStored) → IsSound kept stored self.old
-            → IfOk result (λ next. IsSound kept (stored_after next stored) self.new) }
+        ensures whole { OnOk result (self.new.whole ≡ stays_whole self.old) }
         ensures files { self.new.files ≡ self.old.files }
         ensures body { self.new.body ≡ self.old.body }
 
@@ -68,11 +59,12 @@ impl Store {
         if let Some(cause) = self.fault {
             return Err(StoreFault::Reopen(cause));
         }
-        if !self.waiting.is_empty() && self.is_numbered() && self.has_sealed() {
-            return Err(StoreFault::Damaged(JOURNAL_PART));
-        }
+        let stays_whole = self.stays_whole();
         match self.apply_next() {
-            Ok(next) => Ok(next),
+            Ok(next) => {
+                self.whole = stays_whole;
+                Ok(next)
+            }
             Err(_) => {
                 self.fault = Some(Why::Memory);
                 Err(StoreFault::Memory)
@@ -89,6 +81,7 @@ impl Store {
         ensures files { self.new.files ≡ self.old.files }
         ensures body { self.new.body ≡ self.old.body }
         ensures fault { self.new.fault ≡ self.old.fault }
+        ensures whole { self.new.whole ≡ self.old.whole }
     {
         reserve_first(&mut self.tiers, &self.waiting)?;
         match self.waiting.take_first() {

@@ -28,6 +28,8 @@ pub struct Store {
     pub(crate) count: u64,
     /// The first cause for which the database must be opened again.
     pub(crate) fault: Option<Why>,
+    /// Whether the disk holds what beats leave.
+    pub(crate) whole: bool,
     pub(crate) waiting: Waiting,
     /// What the tiers keep of the beats that were applied.
     pub(crate) tiers: Tiers,
@@ -44,6 +46,7 @@ impl Model for Store {
       body = store.body;
       count = store.count;
       fault = store.fault;
+      whole = store.whole;
       waiting = store.waiting;
       tiers = tiers_held store.tiers;
     } };
@@ -57,8 +60,8 @@ fn has_new<T: Copy + Drop>(segments: &Segments<T>, moment: u32) -> bool
 }
 
 impl Store {
-    ghost use Rattle.store_core.specs.Store.{is_due, is_sealed};
-    ghost use Rattle.store_core.specs.Stored.{has_sealed, is_numbered};
+    ghost use Rattle.store_core.specs.Store.{can_advance, is_due, stays_whole};
+    ghost use Rattle.store_core.specs.Stored.{has_sealed};
 
     /// The settings with which the database was made.
     pub fn settings(&self) -> &Settings
@@ -100,14 +103,23 @@ impl Store {
     pub fn due(&self) -> bool
         ensures { result ≡ is_due self.now }
     {
-        self.is_numbered() && (self.has_sealed() || self.files.journal_bytes() >= LONG_JOURNAL)
+        self.can_advance() && (self.has_sealed() || self.files.journal_bytes() >= LONG_JOURNAL)
     }
 
-    /// Whether there can be a later checkpoint.
-    pub(crate) fn is_numbered(&self) -> bool
-        ensures { result ≡ is_numbered self.now.files.number }
+    /// Whether there can be a later checkpoint: the disk holds what beats leave, and a number is
+    /// left.
+    pub(crate) fn can_advance(&self) -> bool
+        ensures { result ≡ can_advance self.now }
     {
-        self.files.number() < u64::MAX
+        self.whole && self.files.number() < u64::MAX
+    }
+
+    /// Whether the disk still holds what beats leave once the next of those that wait is applied:
+    /// beats leave none behind one that sealed a segment.
+    pub(crate) fn stays_whole(&self) -> bool
+        ensures { result ≡ stays_whole self.now }
+    {
+        self.whole && (self.waiting.is_empty() || !(self.can_advance() && self.has_sealed()))
     }
 
     /// Whether a tier has sealed a segment since the last checkpoint.

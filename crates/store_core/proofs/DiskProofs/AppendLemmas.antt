@@ -13,7 +13,7 @@ use Rattle.journal_core.specs.declared.fault.AppendFault.TheVariants.{DiskFault,
 use Rattle.journal_core.specs.Form.{StandsFor}
 use Rattle.journal_core.specs.Journal.{IsOpen, JournalState, StandsForEither}
 use Rattle.store_core.specs.disk.Contents.{Contents, with_record}
-use Rattle.store_core.specs.disk.Files.{FilesState, IsOpenOf}
+use Rattle.store_core.specs.disk.Files.{FilesState, IsJournalOpen, IsOpenOf, IsPlaced}
 use Rattle.store_core.specs.disk.Holds.{journal_file, Holds, HoldsAround}
 use Rattle.store_core.proofs.DiskProofs.HoldLemmas.{around_ends, journal_differs}
 
@@ -32,6 +32,21 @@ module _ (past : List Event) (files : FilesState) (what : Contents) (is : IsOpen
 
   pub journal_open : IsOpen (of files.journal.file past) files.journal what.records
   journal_open = subst (λ (f : File). IsOpen (of f past) files.journal what.records) (sym journal_place) is.journal
+
+  -- the journal of open files is open
+  pub journal_of : IsJournalOpen past files
+  journal_of = record {
+    records = what.records;
+    is_open = subst (λ (n : ℕ). IsOpen (of (journal_file n) past) files.journal what.records) (sym is.number) is.journal;
+  }
+
+-- with a record more it still is
+pub journal_more : (files : FilesState) (journal : JournalState) (size : ℕ) (records : List (List ℕ)) (new : List Event) → IsPlaced files → journal ≡ record files.journal { bytes = size }
+    → IsOpen (of files.journal.file new) journal records → IsJournalOpen new (record files { journal = journal })
+journal_more files journal size records new place grown opens = record {
+  records = records;
+  is_open = subst (λ (f : File). IsOpen (of f new) journal records) place.file opens;
+}
 
 append_at : (what : Contents) (file : File) (generation : ℕ) (bytes : List ℕ) (old new : List Event) → file ≡ journal_file what.number → generation ≡ what.number
     → EveryDisk (Holds what) old → IsImage (of file old) (contents (of file old)) → OnlyOn file old new

@@ -107,11 +107,11 @@ slot_body : (number other : ℕ) (body bytes : List ℕ) → new_slot number bod
 unfolding body_of bytes_or
 slot_body number other body bytes same = ap body_of same
 
-one_number : (number other : ℕ) (body bytes : Body) (disk : File → List ℕ) → HasCheckpoint number body disk → HasCheckpoint other bytes disk → number ≡ other
+pub one_number : (number other : ℕ) (body bytes : Body) (disk : File → List ℕ) → HasCheckpoint number body disk → HasCheckpoint other bytes disk → number ≡ other
 one_number number other body bytes disk first second =
     slot_number number other (body_bytes body) (body_bytes bytes) (sym first.checkpoint ∙ second.checkpoint)
 
-one_body : (number other : ℕ) (body bytes : Body) (disk : File → List ℕ) → HasCheckpoint number body disk → HasCheckpoint other bytes disk → body ≡ bytes
+pub one_body : (number other : ℕ) (body bytes : Body) (disk : File → List ℕ) → HasCheckpoint number body disk → HasCheckpoint other bytes disk → body ≡ bytes
 one_body number other body bytes disk first second =
     one_value body bytes first.spelt second.spelt
     (slot_body number other (body_bytes body) (body_bytes bytes) (sym first.checkpoint ∙ second.checkpoint))
@@ -132,10 +132,10 @@ unfolding has_body
 no_body number other bytes same = false≢true (ap has_body same)
 
 module _ (disk : File → List ℕ) where
-  short_file : (number : ℕ) (bytes : List ℕ) → HasShortFile disk → checkpoint_in disk ≡ new_slot number bytes → ⊥
+  pub short_file : (number : ℕ) (bytes : List ℕ) → HasShortFile disk → checkpoint_in disk ≡ new_slot number bytes → ⊥
   short_file number bytes short checkpoint = no_body short.ends.number number bytes (sym short.ends.early ∙ checkpoint)
 
-  bad_body : (number : ℕ) (body : Body) → HasBadBody disk → HasCheckpoint number body disk → ⊥
+  pub bad_body : (number : ℕ) (body : Body) → HasBadBody disk → HasCheckpoint number body disk → ⊥
   bad_body number body bad checkpoint =
       bad.unspelt body checkpoint.spelt (slot_body bad.number number bad.bytes (body_bytes body) (sym bad.checkpoint ∙ checkpoint.checkpoint))
 

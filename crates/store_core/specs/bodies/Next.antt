@@ -77,6 +77,12 @@ pub record HaveCounted (now : TiersState) : Type 0 where
   pub points : AreCounted now.points
   pub records : AllByRecursion (λ (one : RecordTierState). AreCounted one.segments) now.records
 
+-- a tier has sealed as many segments as a body keeps of it, at least
+pub record HasCounted (body : Body) : Type 0 where
+  pub points : length body.points.extents ≤ body.points.sealed
+  pub minutes : length body.minutes.extents ≤ body.minutes.sealed
+  pub hours : length body.hours.extents ≤ body.hours.sealed
+
 -- The tiers are sound and go on from those of a body and its pages. Since then each tier has sealed one segment at most.
 pub record GoOnFrom (body : Body) (kept : KeptPages) (was now : TiersState) : Type 0 where
   pub from : AreTiersOfBody body kept was

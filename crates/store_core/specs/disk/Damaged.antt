@@ -1,4 +1,4 @@
--- Which part of a database is damaged.
+-- Which part of a database is damaged, where the pages of its extents count too: what is opened whole.
 use Rattle.std.specs.Prelude.{◌≡◌, ℕ, zero, suc, List}
 use Rattle.host_model.specs.declared.file.File.{File}
 use Rattle.journal_core.specs.Form.{StandsFor}

@@ -23,7 +23,12 @@ pub record IsOpenOf (past : List Event) (files : FilesState) (contents : Content
   pub journal : IsOpen (of (journal_file contents.number) past) files.journal contents.records
   pub holds : EveryDisk (Holds contents) past
 
--- what a call on open files requires of its host
+-- after this past the journal is open, and has some records
+pub record IsJournalOpen (past : List Event) (files : FilesState) : Type 0 where
+  pub records : List (List ℕ)
+  pub is_open : IsOpen (of (journal_file files.number) past) files.journal records
+
+-- what adding a record requires of its host
 pub record IsReady (honest : Type 0) (past : List Event) (files : FilesState) : Type 0 where
   pub place : IsPlaced files
-  pub opened : honest → (contents : Contents) × IsOpenOf past files contents
+  pub journal : honest → IsJournalOpen past files

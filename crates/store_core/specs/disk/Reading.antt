@@ -28,3 +28,7 @@ HasSlot extent = extent.slot ≤ MOST_SLOTS
 -- why an extent is not read
 abbrev pub IsExtentFault : FilesFault → Type 0
 IsExtentFault fault = (fault ≡ DiskFault) ⊎ (fault ≡ Memory) ⊎ (fault ≡ Damaged 3)
+
+-- why a page is not read, where its bytes may be anything
+abbrev pub IsPageFault : FilesFault → Type 0
+IsPageFault fault = (fault ≡ DiskFault) ⊎ (fault ≡ Memory)

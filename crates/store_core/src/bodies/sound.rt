@@ -9,7 +9,7 @@ use storage_number::is_word;
 use tier_settings::{LONGEST_STEP, MOST_SERIES};
 
 /// Whether the item is a point of a beat.
-fn is_point(item: &Item<Stepped>) -> bool
+pub(crate) fn is_point(item: &Item<Stepped>) -> bool
     ensures { IsTrue result ↔ IsPointItem item.now }
 {
     let step = item.value.step;

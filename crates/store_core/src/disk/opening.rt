@@ -46,13 +46,16 @@ pub struct Opened {
 
 /// A checkpoint that was loaded.
 #[derive(Drop)]
-struct Checkpoint {
-    number: u64,
-    body: Body,
+pub(crate) struct Checkpoint {
+    pub(crate) number: u64,
+    pub(crate) body: Body,
 }
 
 /// Loads the checkpoint that counts.
-fn load_checkpoint<H: Host>(alloc: Global, host: &mut H) -> Result<Checkpoint, FilesFault>
+pub(crate) fn load_checkpoint<H: Host>(
+    alloc: Global,
+    host: &mut H,
+) -> Result<Checkpoint, FilesFault>
     ensures loaded { IfOk result (λ found. H.honest
         → HasCheckpoint found.number found.body (reads_as (H.seen host.old).past)) }
     ensures spelt { IfOk result (λ found. HasSpelling found.body) }
@@ -62,6 +65,7 @@ fn load_checkpoint<H: Host>(alloc: Global, host: &mut H) -> Result<Checkpoint, F
         → checkpoint_in (reads_as (H.seen host.old).past) ≡ None }
     ensures damaged { (part : ℕ) → IsErrOf result (FilesFault.Damaged part) → H.honest
         → IsDamagedAt part (reads_as (H.seen host.old).past) }
+    ensures early { (part : ℕ) → IsErrOf result (FilesFault.Damaged part) → part ≤ 2 }
     ensures faults { IfErr result IsOpenFault }
     ensures syncs { H.honest → OnlySyncs (H.seen host.old).past (H.seen host.new).past }
     ensures cause { HasCause (H.seen host.old).disk_faults (H.seen host.new).disk_faults
@@ -92,7 +96,7 @@ fn settle<H: Host>(host: &mut H, file: File) -> Result<(), FilesFault>
 }
 
 /// Makes the files of the tiers hold what they read as.
-fn settle_tiers<H: Host>(host: &mut H) -> Result<(), FilesFault>
+pub(crate) fn settle_tiers<H: Host>(host: &mut H) -> Result<(), FilesFault>
     ensures synced { OnOk result (H.honest → IsSynced (of File.Tier0 (H.seen host.new).past)
         × IsSynced (of File.Tier1 (H.seen host.new).past)
         × IsSynced (of File.Tier2 (H.seen host.new).past)) }
@@ -112,13 +116,13 @@ fn settle_tiers<H: Host>(host: &mut H) -> Result<(), FilesFault>
 
 /// The journal of a generation, and its records.
 #[derive(Drop)]
-struct OpenJournal {
-    journal: Journal,
-    records: RecordList,
+pub(crate) struct OpenJournal {
+    pub(crate) journal: Journal,
+    pub(crate) records: RecordList,
 }
 
 /// Opens the journal of a checkpoint.
-fn open_journal<H: Host>(
+pub(crate) fn open_journal<H: Host>(
     alloc: Global,
     host: &mut H,
     number: u64,

@@ -30,7 +30,7 @@ use page_pool::{PagePool, RawPage};
 use std::alloc::Global;
 
 /// Opens an extent that a checkpoint names, in the file of its tier.
-fn open_extent<H: Host>(
+pub(crate) fn open_extent<H: Host>(
     alloc: Global,
     host: &mut H,
     file: File,
@@ -114,7 +114,7 @@ fn read_items<H: Host>(
 }
 
 /// The page of points that an entry of the directory of an extent names.
-fn read_slot_page<H: Host>(
+pub(crate) fn read_slot_page<H: Host>(
     alloc: Global,
     host: &mut H,
     pool: &mut PagePool,
@@ -155,7 +155,7 @@ fn read_slot_page<H: Host>(
 }
 
 /// The page of records that an entry of the directory of an extent names.
-fn read_record_page<H: Host>(
+pub(crate) fn read_record_page<H: Host>(
     alloc: Global,
     host: &mut H,
     pool: &mut PagePool,
@@ -388,7 +388,7 @@ fn read_tier<H: Host>(
 }
 
 /// The pages of the kept extents of each tier, in the order in which the body names these.
-#[derive(Drop)]
+#[derive(Debug, Drop)]
 pub(crate) struct Kept {
     pub(crate) points: ListOf<SlotPageList>,
     pub(crate) minutes: ListOf<RecordPageList>,

@@ -2,8 +2,8 @@ use Rattle.std.proofs.Common.{◌≡◌, List, None, length}
 use Rattle.host_model.specs.Past.{Event}
 use Rattle.history.specs.History.{Beat}
 use Rattle.tier_settings.specs.declared.settings.Settings.{Settings}
+use Rattle.store_core.specs.declared.beats.beat.Beat.{Beat as StoreBeat}
 use Rattle.store_core.specs.Store.{IsReady}
-use Rattle.store_core.specs.Stored.{Stored}
 use Rattle.agent_core.specs.Left.{IsFit}
 use Rattle.agent_core.specs.Notes.{Noted}
 use Rattle.agent_core.specs.Replay.{HasTaken, IsReplaying}
@@ -16,7 +16,7 @@ abbrev pub invariant-loop : goal.invariant-loop
 invariant-loop g l = record {
   host : g.H.Host.seen l.host ≡ g.H.Host.seen l.initial.host;
   replaying : (past : List Event) (set : Settings) (h : List Beat) → IsReplaying past l.initial.store l.initial.left set h → IsReplaying past l.store l.left set h;
-  notes : (start : Noted) (past : List Event) (stored : Stored) → HasTaken start past l.initial.store l.initial.left stored → HasTaken start past l.store l.left stored;
+  notes : (start : Noted) (beats : List StoreBeat) → HasTaken start beats l.initial.store l.initial.left → HasTaken start beats l.store l.left;
   ready : (past : List Event) → IsReady g.H.Host.honest past l.initial.store → IsReady g.H.Host.honest past l.store;
   going : l.store.fault ≡ None;
   files : l.store.files ≡ l.initial.store.files;

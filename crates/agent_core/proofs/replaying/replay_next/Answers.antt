@@ -1,19 +1,20 @@
-use Rattle.std.proofs.Common.{◌∷◌, ap, sym, subst, ◌∙◌}
+use Rattle.std.proofs.Common.{◌∷◌, Option, ap, sym, subst, ◌∙◌}
 use Rattle.std.proofs.lemmas.Result.{err_from_is_err_and}
-use Rattle.store_core.specs.Store.{Replays, StoreState}
+use Rattle.store_core.specs.declared.beats.beat.Beat.{Beat as StoreBeat}
+use Rattle.store_core.specs.beats.Records.{TakesFirst}
+use Rattle.store_core.specs.Store.{IsReady, Replays, StoreState}
 use Rattle.agent_core.specs.Answers.{tier_beats}
 use Rattle.agent_core.specs.Notes.{noted_in}
 use Rattle.agent_core.specs.Replay.{HasTaken, IsReplaying}
 use Rattle.agent_core.proofs.GapLemmas.{first-tier}
 use Rattle.agent_core.proofs.NoteLemmas.{taken-broken, taken-more, taken-same}
-use Rattle.agent_core.proofs.OpenFaults.{memory-whole}
 use Rattle.agent_core.proofs.OpeningLemmas.{replaying-more, replaying-same, replaying-stands}
 use Rattle.agent_core.proofs.replaying.replay_next.Goals as goal
 
 pub returns-in_err-kept-clause-stands : goal.returns-in_err-kept-clause-stands
 returns-in_err-kept-clause-stands g c =
     let error = err_from_is_err_and c.from_residual.result c.from_residual.ensures.1 in
-    rw (error.1, error.2) (λ past set h was. c.in_err-kept.ensures.whole past was.at.stored was.at.rest was.at.is_at)
+    rw (error.1, error.2) (λ past set h was. c.in_err-kept.ensures.faults)
 
 pub returns-in_err-does-in-Some-clause-stands : goal.returns-in_err-does-in-Some-clause-stands
 returns-in_err-does-in-Some-clause-stands g c =
@@ -38,28 +39,27 @@ returns-in-None-clause-replaying g c past set h was =
     replaying-same past c.args.store.now c.next_beat.new.store c.args.left.now set h was
     (λ stored rest is_at. subst (Replays past c.next_beat.new.store stored rest) c.in-None.is (c.in_ok-kept.ensures.next past stored rest is_at))
 
--- ---- whatever the store has stored
+-- ---- whatever beats the store keeps
 pub returns-in_err-does-in-Some-clause-broken : goal.returns-in_err-does-in-Some-clause-broken
 returns-in_err-does-in-Some-clause-broken g c =
     let error = err_from_is_err_and c.from_residual-in_err-does-in-Some.result c.from_residual-in_err-does-in-Some.ensures.1 in
-    rw (error.1, error.2) (λ damaged start past stored was.
-    taken-broken start past c.args.store.now c.next_beat.new.store c.args.left.now stored c.in-Some.kept was
-    (λ applied rest is_at. subst (Replays past c.next_beat.new.store applied rest) c.in-Some.is (c.in_ok-kept.ensures.next past applied rest is_at))
+    rw (error.1, error.2) (λ damaged start beats was.
+    taken-broken start beats c.args.store.now c.next_beat.new.store c.args.left.now was c.in-Some.kept
+    (subst (λ (next : Option StoreBeat). TakesFirst c.args.store.now.waiting next c.next_beat.new.store.waiting) c.in-Some.is c.in_ok-kept.ensures.takes)
     (c.in_err-does-in-Some.ensures.broken damaged))
 
-pub returns-in_err-kept-clause-whole : goal.returns-in_err-kept-clause-whole
-returns-in_err-kept-clause-whole g c =
-    let error = err_from_is_err_and c.from_residual.result c.from_residual.ensures.1 in
-    rw (error.1, error.2) (λ damaged start past stored was. memory-whole _ damaged (c.in_err-kept.ensures.whole past was.applied was.rest was.is_at))
-
 pub returns-in_ok-follow-in-Some-clause-notes : goal.returns-in_ok-follow-in-Some-clause-notes
-returns-in_ok-follow-in-Some-clause-notes g c start past stored was =
-    subst (λ (s : StoreState). HasTaken start past s c.follow.new.left stored) (sym c.follow.ensures.store)
-    (taken-more start past c.args.store.now c.next_beat.new.store c.args.left.now stored c.in-Some.kept c.follow.new.left was
-    (λ applied rest is_at. subst (Replays past c.next_beat.new.store applied rest) c.in-Some.is (c.in_ok-kept.ensures.next past applied rest is_at))
-    (ap noted_in c.follow.ensures.only ∙ c.in_ok-does-in-Some.ensures.left) c.in_ok-does-in-Some.ensures.next)
+returns-in_ok-follow-in-Some-clause-notes g c start beats was =
+    subst (λ (s : StoreState). HasTaken start beats s c.follow.new.left) (sym c.follow.ensures.store)
+    (taken-more start beats c.args.store.now c.next_beat.new.store c.args.left.now was c.in-Some.kept
+    (subst (λ (next : Option StoreBeat). TakesFirst c.args.store.now.waiting next c.next_beat.new.store.waiting) c.in-Some.is c.in_ok-kept.ensures.takes)
+    c.follow.new.left (ap noted_in c.follow.ensures.only ∙ c.in_ok-does-in-Some.ensures.left) c.in_ok-does-in-Some.ensures.next)
 
 pub returns-in-None-clause-notes : goal.returns-in-None-clause-notes
-returns-in-None-clause-notes g c start past stored was =
-    taken-same start past c.args.store.now c.next_beat.new.store c.args.left.now stored was
-    (λ applied rest is_at. subst (Replays past c.next_beat.new.store applied rest) c.in-None.is (c.in_ok-kept.ensures.next past applied rest is_at))
+returns-in-None-clause-notes g c start beats was =
+    taken-same start beats c.args.store.now c.next_beat.new.store c.args.left.now was
+    (subst (λ (next : Option StoreBeat). TakesFirst c.args.store.now.waiting next c.next_beat.new.store.waiting) c.in-None.is c.in_ok-kept.ensures.takes)
+
+pub returns-in_ok-follow-in-Some-clause-ready : goal.returns-in_ok-follow-in-Some-clause-ready
+returns-in_ok-follow-in-Some-clause-ready g c past ready =
+    subst (IsReady g.H.Host.honest past) (sym c.follow.ensures.store) (c.next_beat.ensures.ready past ready)

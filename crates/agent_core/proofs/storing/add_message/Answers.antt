@@ -5,13 +5,14 @@ use Rattle.host_model.specs.Moments.{begins, Throughout}
 use Rattle.host_model.proofs.MomentLemmas.{joined}
 use Rattle.history.specs.declared.beat.OpenBeat.{OpenBeat}
 use Rattle.history.specs.History.{Beat}
-use Rattle.history.specs.Registry.{Registry, with_definitions}
+use Rattle.history.specs.Registry.{same_chart, same_dimension, Registry, with_definitions}
+use Rattle.history.specs.Regular.{AreApart}
 use Rattle.replication.specs.declared.beats.Beat.{Beat as SentBeat}
 use Rattle.agent_core.specs.declared.left.Left.{Left}
 use Rattle.agent_core.specs.Copying.{definitions_in, names_refusal}
 use Rattle.agent_core.specs.Kept.{onto}
 use Rattle.agent_core.specs.Stands.{StandsForPrefix}
-use Rattle.agent_core.specs.Rules.{lacks_chart, IsOpenBeat}
+use Rattle.agent_core.specs.Rules.{lacks_chart, HasLimits, IsOpenBeat}
 use Rattle.agent_core.specs.Storing.{gap_beats, sent_copies, with_names, HasAdded, MayTakeAll}
 use Rattle.agent_core.proofs.PrefixLemmas.{prefix-none, message-added, message-before, message-behind, message-takes}
 use Rattle.agent_core.proofs.KeepsLemmas.{keeps-after, keeps-both, keeps-err}
@@ -206,3 +207,23 @@ returns-clause-bound g c true_host set h holds was role limit fits =
     let room = grows-both set limit past middle roomed c.args.store.now c.add_gap_before.new.store c.make_room.new.store (c.add_gap_before.ensures.bound true_host set h holds was limit fits)
     (c.make_room.ensures.bound true_host set behind was_kept left limit fits) in
     grows-both set limit past roomed new c.args.store.now c.make_room.new.store c.add_beats.new.store room (c.add_beats.ensures.bound true_host gone.registry set behind kept left defined all limit fits)
+
+pub returns-in_err-add_gap_before-clause-keeps : goal.returns-in_err-add_gap_before-clause-keeps
+returns-in_err-add_gap_before-clause-keeps g c =
+    let p = err_from_is_err_and c.from_residual-in_err-add_gap_before.result c.from_residual-in_err-add_gap_before.ensures.1 in
+    rw (p.1, p.2) (keeps-err g.H.Host.honest (g.H.Host.seen c.args.host.now) (g.H.Host.seen c.add_gap_before.new.host) c.args.store.now c.add_gap_before.new.store c.in_err-add_gap_before.field-0.0 c.in_err-add_gap_before.ensures.keeps)
+
+pub returns-clause-charts : goal.returns-clause-charts
+returns-clause-charts g c =
+    on_ok _ _ c.add_beats.result c.add_beats.ensures.last
+    (λ last. subst (λ (r : Registry). AreApart same_chart r.charts) (sym c.add_beats.ensures.registry) c.in_ok-numbers.ensures.charts)
+
+pub returns-clause-dimensions : goal.returns-clause-dimensions
+returns-clause-dimensions g c =
+    on_ok _ _ c.add_beats.result c.add_beats.ensures.last
+    (λ last. subst (λ (r : Registry). AreApart same_dimension r.dimensions) (sym c.add_beats.ensures.registry) c.in_ok-numbers.ensures.dimensions)
+
+pub returns-clause-limits : goal.returns-clause-limits
+returns-clause-limits g c =
+    on_ok _ _ c.add_beats.result c.add_beats.ensures.last
+    (λ last. subst HasLimits (sym c.add_beats.ensures.registry) c.in_ok-numbers.ensures.limits)

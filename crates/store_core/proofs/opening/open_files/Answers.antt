@@ -1,4 +1,5 @@
 use Rattle.std.proofs.Common.{◌≡◌, Err, sym, ap, ◌∙◌}
+use Rattle.std.proofs.lemmas.Result.{err_from_is_err_and}
 use Rattle.host_model.specs.Disks.{reads_as}
 use Rattle.store_core.specs.declared.disk.fault.FilesFault.TheVariants as files
 use Rattle.store_core.specs.declared.fault.StoreFault.TheVariants.{NotADatabase}
@@ -6,10 +7,11 @@ use Rattle.store_core.proofs.FaultLemmas.{same-fault}
 use Rattle.store_core.proofs.StandLemmas.{is-made, none-made}
 use Rattle.store_core.proofs.opening.open_files.Goals as goal
 
-pub returns-in-Ok-clause-some : goal.returns-in-Ok-clause-some
-returns-in-Ok-clause-some g c h = is-made (reads_as (g.H.Host.seen c.args.host.now).past) ∙ c.in-Ok.ensures.some h
+pub returns-clause-some : goal.returns-clause-some
+returns-clause-some g c h = is-made (reads_as (g.H.Host.seen c.args.host.now).past) ∙ c.in_ok-open.ensures.some h
 
-pub returns-in-Err-clause-none : goal.returns-in-Err-clause-none
-returns-in-Err-clause-none g c is h =
-    let fault : c.of_files.result ≡ NotADatabase = cc in
-    none-made (reads_as (g.H.Host.seen c.args.host.now).past) (c.in-Err.ensures.none (ap Err (same-fault c.in-Err.fault files.NotADatabase (sym c.of_files.ensures ∙ fault))) h)
+pub returns-in_err-open-clause-none : goal.returns-in_err-open-clause-none
+returns-in_err-open-clause-none g c is h =
+    let p = err_from_is_err_and c.from_residual.result c.from_residual.ensures.1 in
+    let fault : p.0 ≡ NotADatabase = cc in
+    none-made (reads_as (g.H.Host.seen c.args.host.now).past) (c.in_err-open.ensures.none (ap Err (same-fault c.in_err-open.field-0.0 files.NotADatabase (sym p.2 ∙ fault))) h)

@@ -1,18 +1,19 @@
-use Rattle.std.proofs.Common.{List, sym, refl, inr, subst}
+use Rattle.std.proofs.Common.{List, true, sym, refl, inr, subst}
 use Rattle.std.proofs.lemmas.Result.{IfErr-at_err, IfOk-weaker}
 use Rattle.host_model.specs.Disks.{reads_as, EveryDisk}
 use Rattle.host_model.specs.Seen.{Seen}
 use Rattle.tier_settings.specs.declared.settings.Settings.{Settings}
 use Rattle.history.specs.History.{Beat}
-use Rattle.store_core.proofs.StandLemmas.{one-damaged}
+use Rattle.store_core.proofs.DamageLemmas.{one-damaged}
 use Rattle.agent_core.specs.Calls.{Opens}
 use Rattle.agent_core.specs.declared.fault.AgentFault.TheVariants.{Damaged}
 use Rattle.agent_core.specs.Faults.{IsUnopened}
+use Rattle.agent_core.specs.Notes.{NotesGo}
 use Rattle.agent_core.specs.Stands.{StandsForHistory}
 use Rattle.agent_core.proofs.NoteLemmas.{never-notes}
-use Rattle.agent_core.proofs.OpenFaults.{damaged-is, damaged-made, err-weaker, never-below, never-none, no-notes, one-told, only-four, replayed-cause, told-cause, told-on, unopened-opening, unreplayed-opening}
-use Rattle.agent_core.proofs.OpeningLemmas.{opened-for, opened-images, opened-ready, opened-stands}
-use Rattle.agent_core.proofs.Outcomes.{always, both_if, on_three}
+use Rattle.agent_core.proofs.OpenFaults.{damaged-is, damaged-made, err-weaker, never-below, never-none, no-notes, one-told, replayed-cause, told-cause, told-on, unopened-opening, unreplayed-opening}
+use Rattle.agent_core.proofs.OpeningLemmas.{opened-for, opened-images, opened-left, opened-ready}
+use Rattle.agent_core.proofs.Outcomes.{always, both_if, on_ok}
 use Rattle.agent_core.proofs.agent.Agent.open.Goals as goal
 
 -- a replay asks nothing of the host
@@ -28,7 +29,7 @@ returns-in-Ok g c =
       opened = IfOk-weaker result _ _ (λ agent is_of true_host set h stands. is_of opened.past set h (opened-for disk opened.past store (c.in-Ok.ensures.opened true_host) set h stands)) replay.of;
       ready = both_if result _ _ _ replay.replayed replay.ready (λ agent has ready. opened-ready g.H.Host.honest opened.past store agent has (ready opened.past c.in-Ok.ensures.ready));
       going = IfOk-weaker result _ _ (λ agent has. has.going) replay.replayed;
-      left = IfOk-weaker result _ _ (λ agent left true_host stored stands. left opened.past stored (c.in-Ok.ensures.opened true_host stored stands)) replay.left;
+      left = IfOk-weaker result _ _ (λ agent left true_host body beats form. opened-left disk store.body body store.waiting beats agent (c.in-Ok.ensures.form true_host) form left) replay.left;
       any_moment = c.open_store.ensures.any_moment;
       same = c.open_store.ensures.same;
       images = always (g.H.Host.honest → (set : Settings) (h : List Beat) → StandsForHistory set h disk → EveryDisk (StandsForHistory set h) opened.past) result
@@ -37,22 +38,14 @@ returns-in-Ok g c =
           err-weaker result _ _ (λ fault memory. inr (memory opened.past set h (opened-for disk opened.past store (c.in-Ok.ensures.opened true_host) set h stands))) replay.stands;
       none = λ is. absurd (never-none (IfErr-at_err _ is replay.faults));
       some = always _ result c.in-Ok.ensures.some;
-      damaged = λ part below is true_host.
-          let four = only-four part below (IfErr-at_err _ is replay.faults) in
-          record {
-            made = c.in-Ok.ensures.some true_host;
-            none_stands = λ stored stands. IfErr-at_err _ is replay.whole four opened.past stored (c.in-Ok.ensures.opened true_host stored stands);
-          };
+      damaged = λ part below is. absurd (never-below part below (IfErr-at_err _ is replay.faults));
       parts = λ part below is. absurd (never-below part below (IfErr-at_err _ is replay.faults));
       first = λ part other is true_host damaged. absurd (c.in-Ok.ensures.whole true_host other damaged);
+      whole = always _ result c.in-Ok.ensures.whole;
       made = λ part is. c.in-Ok.ensures.some;
-      notes = on_three result _ _ _ _ replay.replayed replay.ready replay.notes (λ agent has ready all true_host.
-          let now = ready opened.past c.in-Ok.ensures.ready in
-          let stands =
-          opened-stands g.H.Host.honest host.past opened.past agent.store true_host now has.store_going has.replayed
-          (λ file. g.met.H.Host.reads_an_image c.open_store.new.host file true_host) (c.open_store.ensures.same true_host) in
-          record { stored = now.stored; stands = stands; notes = all opened.past now.stored (c.in-Ok.ensures.opened true_host now.stored stands) });
-      damaged_notes = λ is true_host. never-notes disk opened.past store (c.in-Ok.ensures.opened true_host) (IfErr-at_err _ is replay.broken refl);
+      notes = on_ok _ (g.H.Host.honest → NotesGo true disk) result replay.notes
+          (λ go true_host. record { body = store.body; beats = store.waiting; form = c.in-Ok.ensures.form true_host; notes = go });
+      damaged_notes = λ is true_host. never-notes disk store.body store.waiting (c.in-Ok.ensures.form true_host) (IfErr-at_err _ is replay.broken refl);
       faults = err-weaker result _ _ unreplayed-opening replay.faults;
       cause = replayed-cause host.disk_faults opened.disk_faults c.open_store.result store result c.in-Ok.is c.open_store.ensures.cause replay.faults;
       bound = c.open_store.ensures.bound;
@@ -80,6 +73,7 @@ returns-in-Err g c =
       damaged = λ part below is true_host. damaged-is part disk (asked.damaged part (told-on c.open_store.result fault (Damaged part) c.in-Err.is is) true_host);
       parts = λ part below is. asked.damaged part (told-on c.open_store.result fault (Damaged part) c.in-Err.is is);
       first = λ part other is true_host damaged. one-damaged other part disk damaged (asked.damaged part (told-on c.open_store.result fault (Damaged part) c.in-Err.is is) true_host);
+      whole = tt;
       made = λ part is true_host. damaged-made part disk (asked.damaged part (told-on c.open_store.result fault (Damaged part) c.in-Err.is is) true_host);
       notes = tt;
       damaged_notes = λ is true_host notes. no-notes (subst IsUnopened (one-told fault (Damaged 5) is) c.in-Err.ensures.faults);

@@ -7,7 +7,7 @@ use Rattle.link_session.proofs.incoming.Incoming.next.Goals as goal
 
 pub returns-in-Some-clause-ends : goal.returns-in-Some-clause-ends
 returns-in-Some-clause-ends g c = λ left frames given.
-    subst (λ (f : SessionFault). HasNoMore f left (g.L.Link.left c.loop-self.link) frames) (sym c.reading_fault.ensures)
+    subst (λ (f : SessionFault). HasNoMore f left (g.L.Link.left c.loop-self.link) frames) (sym c.from.ensures)
     (at-refusal c.loop-self.self left (g.L.Link.left c.loop-self.link) frames (c.loop-self.invariant.given left frames given) (omega (arith, c.loop-self-test.true, c.len.ensures)) c.in-Some.fault cc)
 
 pub returns-in_err-take_piece-clause-ends : goal.returns-in_err-take_piece-clause-ends

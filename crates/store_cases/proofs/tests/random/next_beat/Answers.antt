@@ -5,4 +5,5 @@ use Rattle.store_cases.proofs.tests.random.next_beat.Goals as goal
 pub returns-in-Ok-clause-ready : goal.returns-in-Ok-clause-ready
 returns-in-Ok-clause-ready c =
     ready_replayed (Unit {0}) (state_of c.args.host.now).past c.args.store.now c.replay.new.self c.in-Ok.next
-    c.in-Ok.ensures.sound c.in-Ok.ensures.takes c.replay.ensures.files c.replay.ensures.body (λ going. c.in-Ok.ensures.reopens) c.requires.ready
+    c.in-Ok.ensures.takes c.in-Ok.ensures.tiers c.in-Ok.ensures.count c.replay.ensures.files c.replay.ensures.body (λ going. c.in-Ok.ensures.reopens) c.in-Ok.ensures.whole
+    c.requires.ready

@@ -7,6 +7,7 @@ use Rattle.store_core.specs.disk.Files.{FilesState, IsOpenOf, IsPlaced}
 use Rattle.store_core.specs.disk.Shares.{HasRoom}
 use Rattle.store_core.proofs.DiskProofs.ShareLemmas.{within_disks}
 use Rattle.store_core.proofs.DiskProofs.AdvanceLemmas.{made_done, made_moments, own_both, still_before}
+use Rattle.store_core.proofs.DiskProofs.AppendLemmas.{journal_of}
 use Rattle.store_core.proofs.disk.making.create.Goals as goal
 
 pub returns-in_err-expect_none-clause-any_moment : goal.returns-in_err-expect_none-clause-any_moment
@@ -61,7 +62,7 @@ returns-clause-ready g c =
     c.new.ensures ∙ ap {B = FilesState} (λ (j : JournalState). record { number = 0; journal = j }) c.begun_journal.ensures in
     record {
       place = subst IsPlaced (sym made) (record { file = refl; generation = refl });
-      opened = λ h. (new_contents c.args.body.now, returns-clause-created g c h);
+      journal = λ h. journal_of (g.H.Host.seen c.begin.new.host).past c.new.result (new_contents c.args.body.now) (returns-clause-created g c h);
     }
 
 pub returns-in_err-expect_none-clause-bound : goal.returns-in_err-expect_none-clause-bound

@@ -1,7 +1,9 @@
 use Rattle.std.proofs.Common.{◌≡◌, ℕ, List, Err, rules, sym, ap, ◌∙◌, subst}
 use Rattle.std.proofs.lemmas.Result.{err_from_is_err_and}
 use Rattle.host_model.specs.Disks.{reads_as}
+use Rattle.host_model.specs.Past.{of}
 use Rattle.journal_core.specs.Form.{StandsFor}
+use Rattle.journal_core.specs.Journal.{IsOpen}
 use Rattle.store_core.specs.disk.Holds.{journal_file, Holds}
 use Rattle.store_core.specs.declared.disk.fault.FilesFault.TheVariants.{Damaged}
 use Rattle.store_core.specs.disk.Contents.{Contents}
@@ -72,17 +74,12 @@ returns-clause-ready g c = record {
     file = ap (λ (f : FilesState). f.journal.file) c.new.ensures ∙ c.in_ok-opened.ensures.place.0 ∙ ap (λ (f : FilesState). journal_file f.number) (sym c.new.ensures);
     generation = ap (λ (f : FilesState). f.journal.generation) c.new.ensures ∙ c.in_ok-opened.ensures.place.1 ∙ ap (λ (f : FilesState). f.number) (sym c.new.ensures);
   };
-  opened = λ h.
-      let old = (g.H.Host.seen c.args.host.now).past in
-      let middle = (g.H.Host.seen c.load_kept.new.host).past in
-      let new = (g.H.Host.seen c.open_journal.new.host).past in
-      let found = c.in_ok-loaded.loaded in
-      let contents : Contents = record { number = found.checkpoint.number; body = found.checkpoint.body; kept = pages_of found.kept; records = c.in_ok-opened.opened.records } in (
-        contents,
-        opened_of contents c.in_ok-opened.opened.journal old new (c.in_ok-loaded.ensures.loaded h) (c.in_ok-loaded.ensures.kept h) (c.in_ok-opened.ensures.opened h) c.in_ok-opened.ensures.place.1
-            (λ file. (c.open_journal.ensures.syncs h).same file ∙ (c.load_kept.ensures.syncs h).same file) c.new.result (ap (λ (f : FilesState). f.number) c.new.ensures) (ap (λ (f : FilesState). f.journal) c.new.ensures) c.in_ok-opened.ensures.place.0
-            (fixed_stay middle new (c.in_ok-loaded.ensures.synced h) (c.in_ok-opened.ensures.stays h)),
-      );
+  journal = λ h. record {
+    records = c.in_ok-opened.opened.records;
+    is_open =
+        subst (λ (f : FilesState). IsOpen (of (journal_file f.number) (g.H.Host.seen c.open_journal.new.host).past) f.journal c.in_ok-opened.opened.records) (sym c.new.ensures)
+        (c.in_ok-opened.ensures.opened h);
+  };
 }
 
 pub returns-in_err-opened-clause-same : goal.returns-in_err-opened-clause-same

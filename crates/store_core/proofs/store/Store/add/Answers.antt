@@ -6,13 +6,23 @@ use Rattle.beat_tiers.specs.declared.item.BeatPoint.{BeatPoint}
 use Rattle.beat_tiers.specs.Room.{tiers_held}
 use Rattle.beat_tiers.specs.State.{after_beat}
 use Rattle.store_core.specs.disk.Files.{FilesState, IsOpenOf}
+use Rattle.store_core.specs.disk.Files as files
 use Rattle.store_core.specs.disk.Holds.{journal_file}
 use Rattle.store_core.specs.disk.Shares.{share}
 use Rattle.store_core.specs.Counts.{raised}
 use Rattle.store_core.specs.Store.{IsReady, IsStoreOf, StoreState}
 use Rattle.store_core.specs.Stored.{stored_with}
-use Rattle.store_core.proofs.FollowLemmas.{added_is, append_moments, fits_share, may_follow, nothing_done, one_more, ready_more, unsealed}
+use Rattle.store_core.proofs.FaultLemmas.{ok_cause}
+use Rattle.store_core.proofs.FollowLemmas.{added_is, append_moments, files_ready, fits_share, may_follow, nothing_done, one_more, ready_more, unsealed}
 use Rattle.store_core.proofs.store.Store.add.Goals as goal
+
+-- what adding the record requires
+
+pub append-requires-clause-ready : goal.append-requires-clause-ready
+append-requires-clause-ready g c =
+    let old = (g.H.Host.seen c.args.host.now).past in
+    subst (λ (s : StoreState). files.IsReady g.H.Host.honest old s.files) (sym c.self.view_is)
+    (files_ready g.H.Host.honest old c.args.self.now c.requires.ready c.requires.going)
 
 -- where nothing was written
 
@@ -82,7 +92,7 @@ returns-clause-stored g c h stored is_of =
     let new = (g.H.Host.seen c.append.new.host).past in
     let store = c.args.self.now in
     let beat = c.args.beat.now in
-    let files = c.append.new.self in
+    let opened = c.append.new.self in
     let same : c.self.inside.files ≡ store.files = ap (λ (s : StoreState). s.files) c.self.view_is in
     let taken : tiers_held c.take.new.self ≡ after_beat beat.moment beat.points store.tiers =
     c.take.ensures
@@ -90,9 +100,9 @@ returns-clause-stored g c h stored is_of =
     ∙ ap (λ (points : List BeatPoint). after_beat beat.moment points (tiers_held c.self.inside.tiers)) c.as_slice-points.ensures
     ∙ ap (λ (s : StoreState). after_beat beat.moment beat.points s.tiers) c.self.view_is in
     let count : c.saturating_add-self-inside.result ≡ raised c.self.inside.count = omega (arith, c.saturating_add-self-inside.ensures) in
-    let whole = added_is _ store c.saturating_add-self-inside.result (tiers_held c.take.new.self) files beat c.self.view_is count taken in
+    let whole = added_is _ store c.saturating_add-self-inside.result (tiers_held c.take.new.self) opened beat c.self.view_is count taken in
     subst (λ (s : StoreState). IsStoreOf new s (stored_with stored beat)) (sym whole)
-    (one_more old new store files c.as_slice.result.now stored beat is_of (c.as_slice.ensures ∙ c.in-Ok.ensures.spelling)
+    (one_more old new store opened c.as_slice.result.now stored beat is_of (c.as_slice.ensures ∙ c.in-Ok.ensures.spelling)
     (may_follow old store stored [] beat is_of c.requires.form c.requires.later (unsealed store c.requires.not_due))
     (λ contents opened. ok_part c.append.result (sym c.if-is_err-2.ensures.value) c.append.ensures.stored h contents (subst (λ (f : FilesState). IsOpenOf old f contents) (sym same) opened)))
 
@@ -102,18 +112,26 @@ returns-clause-ready g c =
     let new = (g.H.Host.seen c.append.new.host).past in
     let store = c.args.self.now in
     let beat = c.args.beat.now in
-    let files = c.append.new.self in
+    let opened = c.append.new.self in
     let fine = sym c.if-is_err-2.ensures.value in
     let same : c.self.inside.files ≡ store.files = ap (λ (s : StoreState). s.files) c.self.view_is in
-    let number : files.number ≡ store.files.number = ap (λ (f : FilesState). f.number) (ok_part c.append.result fine c.append.ensures.files) ∙ ap (λ (f : FilesState). f.number) same in
+    let number : opened.number ≡ store.files.number = ap (λ (f : FilesState). f.number) (ok_part c.append.result fine c.append.ensures.files) ∙ ap (λ (f : FilesState). f.number) same in
     let taken : tiers_held c.take.new.self ≡ after_beat beat.moment beat.points store.tiers =
     c.take.ensures
     ∙ ap (after_beat beat.moment c.as_slice-points.result.now) c.reserve.ensures.kept
     ∙ ap (λ (points : List BeatPoint). after_beat beat.moment points (tiers_held c.self.inside.tiers)) c.as_slice-points.ensures
     ∙ ap (λ (s : StoreState). after_beat beat.moment beat.points s.tiers) c.self.view_is in
     let count : c.saturating_add-self-inside.result ≡ raised c.self.inside.count = omega (arith, c.saturating_add-self-inside.ensures) in
-    let whole = added_is _ store c.saturating_add-self-inside.result (tiers_held c.take.new.self) files beat c.self.view_is count taken in
+    let whole = added_is _ store c.saturating_add-self-inside.result (tiers_held c.take.new.self) opened beat c.self.view_is count taken in
     subst (λ (s : StoreState). IsReady g.H.Host.honest new s) (sym whole)
-    (ready_more g.H.Host.honest old new store files c.as_slice.result.now beat c.requires.ready c.requires.replayed c.requires.form c.requires.later (unsealed store c.requires.not_due)
+    (ready_more g.H.Host.honest old new store opened c.as_slice.result.now beat c.requires.ready c.requires.replayed c.requires.form c.requires.later (unsealed store c.requires.not_due)
     (c.as_slice.ensures ∙ c.in-Ok.ensures.spelling) c.requires.going number (ok_part c.append.result fine c.append.ensures.ready)
     (λ h contents opened. ok_part c.append.result fine c.append.ensures.stored h contents (subst (λ (f : FilesState). IsOpenOf old f contents) (sym same) opened)))
+
+-- what was added takes the memory that was reserved, and the disk did not fail
+
+pub take-requires : goal.take-requires
+take-requires g c = ok_part c.reserve.result (sym c.if-is_err.ensures.value) c.reserve.ensures.room
+
+pub returns-clause-cause : goal.returns-clause-cause
+returns-clause-cause g c = ok_cause _ _ c.append.result _ tt _ (sym c.if-is_err-2.ensures.value) c.append.ensures.cause

@@ -1,10 +1,10 @@
 use Rattle.std.proofs.Common.{◌≡◌, ◌+◌, None, true, sym, ap, subst}
+use Rattle.std.proofs.lemmas.Bool.{and_parts}
 use Rattle.std.proofs.lemmas.Result.{err_from_is_err_and}
 use Rattle.host_model.specs.Moments.{begins, Throughout}
 use Rattle.store_core.specs.disk.Shares.{share, IsWithin}
 use Rattle.tier_settings.specs.declared.settings.Settings.{Settings}
-use Rattle.store_core.specs.Store.{IsReady, IsReplayed, IsStoreOf, StoreState}
-use Rattle.store_core.specs.Stored.{is_numbered}
+use Rattle.store_core.specs.Store.{can_advance, IsReady, IsReplayed, IsStoreOf, StoreState}
 use Rattle.store_core.proofs.AdvanceLemmas.{advance-bound, advance-moments, advance-ready, advance-store, cause-of-files, nothing-moved, ready-goes}
 use Rattle.store_core.proofs.store.Store.advance.Goals as goal
 
@@ -12,7 +12,7 @@ pub next_body-made-requires-clause-goes_on : goal.next_body-made-requires-clause
 next_body-made-requires-clause-goes_on g c =
     let old = (g.H.Host.seen c.args.host.now).past in
     ready-goes g.H.Host.honest old _ (subst (IsReady g.H.Host.honest old) (sym c.self.view_is) c.requires.ready)
-    (subst (λ (s : StoreState). is_numbered s.files.number ≡ true) (sym c.self.view_is) c.requires.numbered)
+    (subst (λ (s : StoreState). can_advance s ≡ true) (sym c.self.view_is) c.requires.going_on)
 
 pub returns-in_default-clause-any_moment : goal.returns-in_default-clause-any_moment
 returns-in_default-clause-any_moment g c h stored is_of =
@@ -26,7 +26,8 @@ returns-clause-any_moment g c h stored is_of =
     let old = (g.H.Host.seen c.args.host.now).past in
     let new = (g.H.Host.seen c.checkpoint.new.host).past in
     let was = subst (λ (s : StoreState). IsStoreOf old s stored) (sym c.self.view_is) is_of in
-    let numbered = subst (λ (s : StoreState). is_numbered s.files.number ≡ true) (sym c.self.view_is) c.requires.numbered in
+    let goes = subst (λ (s : StoreState). can_advance s ≡ true) (sym c.self.view_is) c.requires.going_on in
+    let numbered = (and_parts _ _ goes).1 in
     advance-moments old _ stored was numbered c.args.side c.in-Ok.body c.in-Ok.sealed
     (record { is = c.in-Ok.ensures.is; spelt = c.in-Ok.ensures.spelt; follows = c.in-Ok.ensures.follows; tiers = c.in-Ok.ensures.tiers; counted = c.in-Ok.ensures.counted })
     new (c.checkpoint.ensures.any_moment h)
@@ -36,7 +37,8 @@ returns-clause-advanced g c h stored is_of =
     let old = (g.H.Host.seen c.args.host.now).past in
     let new = (g.H.Host.seen c.checkpoint.new.host).past in
     let was = subst (λ (s : StoreState). IsStoreOf old s stored) (sym c.self.view_is) is_of in
-    let numbered = subst (λ (s : StoreState). is_numbered s.files.number ≡ true) (sym c.self.view_is) c.requires.numbered in
+    let goes = subst (λ (s : StoreState). can_advance s ≡ true) (sym c.self.view_is) c.requires.going_on in
+    let numbered = (and_parts _ _ goes).1 in
     let replayed = subst (λ (s : StoreState). IsReplayed s) (sym c.self.view_is) c.requires.replayed in
     advance-store old _ stored was numbered c.args.side c.in-Ok.body c.in-Ok.sealed
     (record { is = c.in-Ok.ensures.is; spelt = c.in-Ok.ensures.spelt; follows = c.in-Ok.ensures.follows; tiers = c.in-Ok.ensures.tiers; counted = c.in-Ok.ensures.counted })
@@ -47,10 +49,10 @@ returns-clause-ready g c =
     let old = (g.H.Host.seen c.args.host.now).past in
     let new = (g.H.Host.seen c.checkpoint.new.host).past in
     let ready = subst (IsReady g.H.Host.honest old) (sym c.self.view_is) c.requires.ready in
-    let numbered = subst (λ (s : StoreState). is_numbered s.files.number ≡ true) (sym c.self.view_is) c.requires.numbered in
+    let goes = subst (λ (s : StoreState). can_advance s ≡ true) (sym c.self.view_is) c.requires.going_on in
     let replayed = subst (λ (s : StoreState). IsReplayed s) (sym c.self.view_is) c.requires.replayed in
     let going = subst (λ (s : StoreState). s.fault ≡ None) (sym c.self.view_is) c.requires.going in
-    advance-ready g.H.Host.honest old new _ c.args.side c.in-Ok.body c.in-Ok.sealed c.checkpoint.new.self ready numbered replayed going
+    advance-ready g.H.Host.honest old new _ c.args.side c.in-Ok.body c.in-Ok.sealed c.checkpoint.new.self ready goes replayed going
     (record { is = c.in-Ok.ensures.is; spelt = c.in-Ok.ensures.spelt; follows = c.in-Ok.ensures.follows; tiers = c.in-Ok.ensures.tiers; counted = c.in-Ok.ensures.counted })
     c.in_ok-checkpoint.ensures.files c.in_ok-checkpoint.ensures.done
 
@@ -69,7 +71,8 @@ returns-in_err-checkpoint-clause-any_moment g c h stored is_of =
     let old = (g.H.Host.seen c.args.host.now).past in
     let new = (g.H.Host.seen c.checkpoint.new.host).past in
     let was = subst (λ (s : StoreState). IsStoreOf old s stored) (sym c.self.view_is) is_of in
-    let numbered = subst (λ (s : StoreState). is_numbered s.files.number ≡ true) (sym c.self.view_is) c.requires.numbered in
+    let goes = subst (λ (s : StoreState). can_advance s ≡ true) (sym c.self.view_is) c.requires.going_on in
+    let numbered = (and_parts _ _ goes).1 in
     advance-moments old _ stored was numbered c.args.side c.in-Ok.body c.in-Ok.sealed
     (record { is = c.in-Ok.ensures.is; spelt = c.in-Ok.ensures.spelt; follows = c.in-Ok.ensures.follows; tiers = c.in-Ok.ensures.tiers; counted = c.in-Ok.ensures.counted })
     new (c.checkpoint.ensures.any_moment h)

@@ -4,12 +4,12 @@ use Rattle.store_core.specs.Store.{StoreState}
 use Rattle.store_core.proofs.AdvanceLemmas.{next-not-due, nothing-moved}
 use Rattle.store_core.proofs.store.Store.checkpoint.Goals as goal
 
-pub returns-then-not-is_numbered-clause-any_moment : goal.returns-then-not-is_numbered-clause-any_moment
-returns-then-not-is_numbered-clause-any_moment g c h stored is_of =
+pub returns-then-not-can_advance-clause-any_moment : goal.returns-then-not-can_advance-clause-any_moment
+returns-then-not-can_advance-clause-any_moment g c h stored is_of =
     begins (nothing-moved (g.H.Host.seen c.args.host.now).past c.args.self.now stored c.args.side is_of)
 
-pub returns-then-not-is_numbered-clause-bound : goal.returns-then-not-is_numbered-clause-bound
-returns-then-not-is_numbered-clause-bound g c most short h within = begins within
+pub returns-then-not-can_advance-clause-bound : goal.returns-then-not-can_advance-clause-bound
+returns-then-not-can_advance-clause-bound g c most short h within = begins within
 
 pub returns-in-Some-clause-bound : goal.returns-in-Some-clause-bound
 returns-in-Some-clause-bound g c most short h within = begins within

@@ -1,4 +1,4 @@
-use Rattle.std.proofs.Common.{◌≡◌, ◌⊎◌, Err, inl, inr, sym, ap, ◌∙◌}
+use Rattle.std.proofs.Common.{◌≡◌, ◌⊎◌, Err, inl, inr, refl, sym, ap, ◌∙◌}
 use Rattle.std.specs.Result.{IsErrOf}
 use Rattle.std.proofs.lemmas.Bool.{false≢true}
 use Rattle.std.proofs.lemmas.Result.{err_from_is_err_and}
@@ -83,7 +83,7 @@ returns-in_err-files-clause-made_moment g c h made =
 pub returns-clause-ready : goal.returns-clause-ready
 returns-clause-ready g c =
     let first = c.in-Ok.ensures in
-    new-ready g.H.Host.honest (g.H.Host.seen c.create.new.host).past _ c.args.settings.now first.spelt first.empty first.tiers
+    new-ready g.H.Host.honest (g.H.Host.seen c.create.new.host).past _ c.args.settings.now refl first.spelt first.empty first.tiers
     c.in-Ok-new_tiers.ensures c.new.ensures (sym (ap (λ (b : Body). b.count) first.body)) c.in_ok-files.ensures.ready.place (λ h. c.in_ok-files.ensures.created h)
 
 pub returns-clause-any_moment : goal.returns-clause-any_moment

@@ -1,69 +1,88 @@
-use Rattle.std.proofs.Common.{◌≡◌, Err, inr, refl, ap, rules}
-use Rattle.std.proofs.lemmas.Result.{err_from_is_err_and}
+use Rattle.std.proofs.Common.{ℕ, List, subst}
+use Rattle.std.proofs.lemmas.Result.{IfOk-weaker}
+use Rattle.host_model.specs.declared.file.File.{File}
 use Rattle.host_model.specs.Disks.{reads_as}
-use Rattle.store_core.specs.disk.Contents.{Contents}
-use Rattle.store_core.specs.disk.Opened.{contents_of}
-use Rattle.store_core.proofs.DiskProofs.OneLemmas.{one_contents}
+use Rattle.store_core.specs.Damaged.{HasForm, IsDamagedIn}
+use Rattle.store_core.proofs.DamageLemmas.{form-undamaged}
+use Rattle.store_core.proofs.DiskProofs.OpenedLemmas.{same_disk}
 use Rattle.store_core.proofs.DiskProofs.ShareLemmas.{within_syncs}
-use Rattle.store_core.specs.declared.fault.StoreFault.TheVariants.{Damaged}
-use Rattle.store_core.proofs.FaultLemmas.{read-whole}
-use Rattle.store_core.proofs.OpenLemmas.{opened-images, opened-ready, opens-at}
-use Rattle.store_core.proofs.StandLemmas.{files-whole, has-stored, never-bad, none-bad}
+use Rattle.store_core.proofs.DiskProofs.SyncLemmas.{syncs_joined}
+use Rattle.store_core.proofs.OpenLemmas.{damaged-fails, each-ok, every-ok, form-made, from-form, opened-images}
 use Rattle.store_core.proofs.store.Store.open.Goals as goal
 
--- ---- the files are not opened
+-- ---- the disk holds what beats leave
 
-pub returns-in_err-opened-clause-bound : goal.returns-in_err-opened-clause-bound
-returns-in_err-opened-clause-bound g c shares h within =
-    within_syncs shares (g.H.Host.seen c.args.host.now).past (g.H.Host.seen c.open_files.new.host).past (c.open_files.ensures.syncs h) within
+pub returns-in-Ok-clause-bound : goal.returns-in-Ok-clause-bound
+returns-in-Ok-clause-bound g c shares h within =
+    within_syncs shares (g.H.Host.seen c.args.host.now).past (g.H.Host.seen c.open_whole.new.host).past (c.open_whole.ensures.syncs h) within
 
--- ---- what they hold is not read
+pub returns-in-Ok-clause-some : goal.returns-in-Ok-clause-some
+returns-in-Ok-clause-some g c h = form-made _ _ (reads_as (g.H.Host.seen c.args.host.now).past) (c.in-Ok.ensures.form h)
 
-pub returns-in_err-tiers-clause-bound : goal.returns-in_err-tiers-clause-bound
-returns-in_err-tiers-clause-bound g c shares h within =
-    within_syncs shares (g.H.Host.seen c.args.host.now).past (g.H.Host.seen c.open_files.new.host).past (c.open_files.ensures.syncs h) within
+pub returns-in-Ok-clause-whole : goal.returns-in-Ok-clause-whole
+returns-in-Ok-clause-whole g c h = form-undamaged _ _ (reads_as (g.H.Host.seen c.args.host.now).past) (c.in-Ok.ensures.form h)
 
-pub returns-in_err-tiers-clause-damaged : goal.returns-in_err-tiers-clause-damaged
-returns-in_err-tiers-clause-damaged g c part is h =
-    let fault : c.in_err-tiers.field-0.0 ≡ Damaged part = search (rules, is) in
-    inr (record {
-      contents = contents_of c.in_ok-opened.opened;
-      holds = c.in_ok-opened.ensures.holds h;
-      bad = c.in_err-tiers.ensures.damaged part (ap Err fault);
-    })
+pub returns-in-Ok-clause-images : goal.returns-in-Ok-clause-images
+returns-in-Ok-clause-images g c h stored stands =
+    opened-images (g.H.Host.seen c.open_whole.new.host).past _ stored (c.in-Ok.ensures.opened h stored stands)
 
-pub returns-in_err-tiers-clause-complete : goal.returns-in_err-tiers-clause-complete
-returns-in_err-tiers-clause-complete g c h stored stands =
-    let contents : Contents = contents_of c.in_ok-opened.opened in
+-- ---- it does not
+
+pub returns-in-Err-Damaged-clause-any_moment : goal.returns-in-Err-Damaged-clause-any_moment
+returns-in-Err-Damaged-clause-any_moment g c h =
+    let old = (g.H.Host.seen c.args.host.now).past in
+    let middle = (g.H.Host.seen c.open_whole.new.host).past in
+    let new = (g.H.Host.seen c.open_left.new.host).past in
+    (syncs_joined old middle new (c.open_whole.ensures.syncs h) (c.open_left.ensures.syncs h)).any_moment
+
+pub returns-in-Err-Damaged-clause-bound : goal.returns-in-Err-Damaged-clause-bound
+returns-in-Err-Damaged-clause-bound g c shares h within =
+    let old = (g.H.Host.seen c.args.host.now).past in
+    let middle = (g.H.Host.seen c.open_whole.new.host).past in
+    let new = (g.H.Host.seen c.open_left.new.host).past in
+    within_syncs shares old new (syncs_joined old middle new (c.open_whole.ensures.syncs h) (c.open_left.ensures.syncs h)) within
+
+pub returns-in-Err-Damaged-clause-form : goal.returns-in-Err-Damaged-clause-form
+returns-in-Err-Damaged-clause-form g c =
+    let old = (g.H.Host.seen c.args.host.now).past in
+    let middle = (g.H.Host.seen c.open_whole.new.host).past in
+    IfOk-weaker c.open_left.result _ _
+    (λ store held h. subst (λ (disk : File → List ℕ). HasForm store.body store.waiting disk) (same_disk (reads_as middle) (reads_as old) (c.open_whole.ensures.syncs h).same) (held h))
+    c.open_left.ensures.form
+
+pub returns-in-Err-Damaged-clause-some : goal.returns-in-Err-Damaged-clause-some
+returns-in-Err-Damaged-clause-some g c =
     let disk = reads_as (g.H.Host.seen c.args.host.now).past in
-    let has = has-stored contents stored disk stands (one_contents stands.contents contents disk stands.holds (c.in_ok-opened.ensures.holds h)) in
-    let p = err_from_is_err_and c.from_residual-in_err-tiers.result c.from_residual-in_err-tiers.ensures.1 in
-    rw (p.1, p.2) (read-whole c.in_err-tiers.field-0.0 c.in_err-tiers.ensures.faults
-    (λ part fault. never-bad part contents stored has (c.in_err-tiers.ensures.damaged part (ap Err fault))))
+    from-form g.H.Host.honest _ c.open_left.result (λ store. HasForm store.body store.waiting disk) (returns-in-Err-Damaged-clause-form g c) (λ store form. form-made store.body store.waiting disk form)
 
--- ---- the database is opened
+pub returns-in-Err-Damaged-clause-whole : goal.returns-in-Err-Damaged-clause-whole
+returns-in-Err-Damaged-clause-whole g c =
+    let disk = reads_as (g.H.Host.seen c.args.host.now).past in
+    from-form g.H.Host.honest _ c.open_left.result (λ store. HasForm store.body store.waiting disk) (returns-in-Err-Damaged-clause-form g c) (λ store form. form-undamaged store.body store.waiting disk form)
 
-pub returns-clause-opened : goal.returns-clause-opened
-returns-clause-opened g c h stored stands =
-    opens-at (contents_of c.in_ok-opened.opened) (reads_as (g.H.Host.seen c.args.host.now).past) (g.H.Host.seen c.open_files.new.host).past _
-    (c.in_ok-opened.ensures.holds h) (c.in_ok-opened.ensures.opened h) c.in_ok-opened.ensures.spelt refl refl refl c.in_ok-tiers.ensures.tiers c.in_ok-tiers.ensures.beats stored stands
+pub returns-in-Err-Damaged-clause-damaged : goal.returns-in-Err-Damaged-clause-damaged
+returns-in-Err-Damaged-clause-damaged g c part is h =
+    let old = (g.H.Host.seen c.args.host.now).past in
+    let middle = (g.H.Host.seen c.open_whole.new.host).past in
+    subst (λ (disk : File → List ℕ). IsDamagedIn part disk) (same_disk (reads_as middle) (reads_as old) (c.open_whole.ensures.syncs h).same) (c.open_left.ensures.damaged part is h)
 
-pub returns-clause-ready : goal.returns-clause-ready
-returns-clause-ready g c =
-    opened-ready g.H.Host.honest (g.H.Host.seen c.open_files.new.host).past _ (contents_of c.in_ok-opened.opened) c.in_ok-opened.ensures.spelt c.in_ok-opened.ensures.paged
-    c.in_ok-tiers.ensures.tiers c.in_ok-tiers.ensures.counted c.in_ok-opened.ensures.place refl refl c.in_ok-tiers.ensures.beats c.in_ok-tiers.ensures.bytes
-    (λ h. c.in_ok-opened.ensures.opened h)
+-- where the disk holds a database of beats, it was opened before
+pub returns-in-Err-Damaged-clause-opened : goal.returns-in-Err-Damaged-clause-opened
+returns-in-Err-Damaged-clause-opened g c =
+    every-ok c.open_left.result
+    (λ store h stored stands. absurd (damaged-fails c.in-Err-Damaged.field-0 c.in-Err-Damaged.field-0-0 c.in-Err-Damaged.field-0-is (c.in-Err-Damaged.ensures.complete h stored stands)))
 
-pub returns-clause-whole : goal.returns-clause-whole
-returns-clause-whole g c h =
-    let contents : Contents = contents_of c.in_ok-opened.opened in
-    files-whole contents (reads_as (g.H.Host.seen c.args.host.now).past) (c.in_ok-opened.ensures.holds h)
-    (none-bad contents c.in_ok-tiers.ensures.counted _ c.in_ok-tiers.ensures.tiers _ c.in_ok-tiers.ensures.beats)
+pub returns-in-Err-Damaged-clause-images : goal.returns-in-Err-Damaged-clause-images
+returns-in-Err-Damaged-clause-images g c =
+    each-ok c.open_left.result
+    (λ h stored stands. absurd (damaged-fails c.in-Err-Damaged.field-0 c.in-Err-Damaged.field-0-0 c.in-Err-Damaged.field-0-is (c.in-Err-Damaged.ensures.complete h stored stands)))
 
-pub returns-clause-bound : goal.returns-clause-bound
-returns-clause-bound g c shares h within =
-    within_syncs shares (g.H.Host.seen c.args.host.now).past (g.H.Host.seen c.open_files.new.host).past (c.open_files.ensures.syncs h) within
+pub returns-in-Err-Damaged-clause-complete : goal.returns-in-Err-Damaged-clause-complete
+returns-in-Err-Damaged-clause-complete g c h stored stands =
+    absurd (damaged-fails c.in-Err-Damaged.field-0 c.in-Err-Damaged.field-0-0 c.in-Err-Damaged.field-0-is (c.in-Err-Damaged.ensures.complete h stored stands))
 
-pub returns-clause-images : goal.returns-clause-images
-returns-clause-images g c h stored stands =
-    opened-images (g.H.Host.seen c.open_files.new.host).past _ stored (returns-clause-opened g c h stored stands)
+-- ---- the disk or memory failed
+
+pub returns-in-Err-clause-bound : goal.returns-in-Err-clause-bound
+returns-in-Err-clause-bound g c shares h within =
+    within_syncs shares (g.H.Host.seen c.args.host.now).past (g.H.Host.seen c.open_whole.new.host).past (c.open_whole.ensures.syncs h) within

@@ -1,21 +1,13 @@
-use Rattle.std.proofs.Common.{refl, sym, ap, ◌∙◌}
-use Rattle.std.proofs.lemmas.Bool.{false≢true}
-use Rattle.store_core.specs.Store.{StoreState}
-use Rattle.store_core.proofs.FollowReplay.{never_sealed, sound_after, MayReplay}
+use Rattle.std.proofs.Common.{sym, ◌∙◌, subst}
+use Rattle.store_core.specs.Store.{Replays, StoreState}
+use Rattle.store_core.proofs.FollowReplay.{at-stays, replays}
 use Rattle.store_core.proofs.store.Store.replay.Goals as goal
-use Rattle.store_core.proofs.store.Store.replay.Goals.{else-not-is_empty-via-then-not-is_empty+then-is_numbered+else-has_sealed, else-not-is_empty-via-then-not-is_empty+else-is_numbered, else-not-is_empty-via-else-not-is_empty}
 
-pub returns-then-has_sealed-clause-whole : goal.returns-then-has_sealed-clause-whole
-returns-then-has_sealed-clause-whole c past stored rest is_at is_damaged =
-    never_sealed past c.args.self.now stored rest is_at (λ none. false≢true (c.if-not-is_empty.ensures.1 (ap (λ (s : StoreState). s.waiting) c.self.view_is ∙ none)))
-    (sym c.if-is_numbered.ensures) (sym c.if-has_sealed.ensures)
-
-pub returns-in-Ok-clause-sound : goal.returns-in-Ok-clause-sound
-returns-in-Ok-clause-sound c kept stored sound =
+pub returns-in-Ok-clause-next : goal.returns-in-Ok-clause-next
+returns-in-Ok-clause-next c past stored rest is_at =
     let store = c.args.self.now in
-    let may : MayReplay store = elim c.else-not-is_empty.branch [
-      | else-not-is_empty-via-then-not-is_empty+then-is_numbered+else-has_sealed w ↦ λ waits numbered. sym w.if-has_sealed.ensures
-      | else-not-is_empty-via-then-not-is_empty+else-is_numbered w ↦ λ waits numbered. absurd (false≢true (w.if-is_numbered.ensures ∙ numbered))
-      | else-not-is_empty-via-else-not-is_empty w ↦ λ waits numbered. absurd (waits (ap (λ (s : StoreState). s.waiting) (sym c.self.view_is) ∙ w.if-not-is_empty.ensures.0 refl))
-    ] in
-    sound_after kept stored store c.apply_next.new.self c.in-Ok.next may sound c.in-Ok.ensures.takes c.in-Ok.ensures.tiers c.in-Ok.ensures.count c.apply_next.ensures.files c.apply_next.ensures.body
+    let whole = c.stays_whole-stays_whole.result in
+    subst (λ (s : StoreState). Replays past (record s { whole = whole }) stored rest c.in-Ok.next) (sym c.self-2.view_is)
+    (replays past store (record c.apply_next.new.self { whole = whole }) stored c.apply_next.ensures.files c.apply_next.ensures.body c.apply_next.ensures.fault
+    (c.stays_whole-stays_whole.ensures ∙ at-stays past store stored rest is_at)
+    rest c.in-Ok.next is_at c.in-Ok.ensures.takes c.in-Ok.ensures.tiers c.in-Ok.ensures.count)

@@ -1,15 +1,15 @@
-use Rattle.std.proofs.Common.{◌+◌, length, sym, ap, refl, ◌∙◌, subst, ◌≤◌, ◌<◌, arith}
+use Rattle.std.proofs.Common.{◌+◌, [], ◌∷◌, ◌++◌, length, sym, ap, refl, ◌∙◌, subst, ◌≤◌, ◌<◌, arith}
 use Rattle.host_model.proofs.CallLemmas.{ok_part}
 use Rattle.host_model.proofs.MomentLemmas.{at_end}
-use Rattle.journal_core.specs.Journal.{JournalState}
-use Rattle.store_core.specs.disk.Contents.{with_record}
-use Rattle.store_core.specs.disk.Files.{FilesState, IsOpenOf, IsPlaced}
+use Rattle.host_model.specs.Past.{of}
+use Rattle.journal_core.specs.Journal.{IsOpen, JournalState}
+use Rattle.store_core.specs.disk.Files.{FilesState, IsJournalOpen, IsOpenOf, IsPlaced}
 use Rattle.host_model.specs.declared.file.File.{File}
 use Rattle.journal_core.specs.Form.{record_size}
 use Rattle.journal_core.specs.declared.journal.TheConstants.{RECORD_LIMIT}
 use Rattle.store_core.specs.disk.Holds.{journal_file}
 use Rattle.store_core.proofs.DiskProofs.ShareLemmas.{within_on}
-use Rattle.store_core.proofs.DiskProofs.AppendLemmas.{append_done, append_failed, append_moments, journal_open}
+use Rattle.store_core.proofs.DiskProofs.AppendLemmas.{append_done, append_failed, append_moments, journal_more, journal_open}
 use Rattle.store_core.proofs.disk.files.Files.append.Goals as goal
 
 pub returns-then-is_err-clause-any_moment : goal.returns-then-is_err-clause-any_moment
@@ -50,7 +50,13 @@ returns-clause-ready g c =
         file = ap (λ (j : JournalState). j.file) grown ∙ place.file;
         generation = ap (λ (j : JournalState). j.generation) grown ∙ place.generation;
       };
-      opened = λ h. let before = c.requires.ready.opened h in (with_record before.0 c.args.bytes.now, returns-clause-stored g c h before.0 before.1);
+      journal = λ h.
+          let old = (g.H.Host.seen c.args.host.now).past in let new = (g.H.Host.seen c.append.new.host).past in
+          let files : FilesState = record { number = c.self.inside.number; journal = c.self.inside.journal } in
+          let before : IsJournalOpen old files = subst (λ (f : FilesState). IsJournalOpen old f) (sym c.self.view_is) (c.requires.ready.journal h) in
+          let opens = subst (λ (f : File). IsOpen (of f old) files.journal before.records) (sym place.file) before.is_open in
+          journal_more files c.append.new.self (c.self.inside.journal.bytes + 5 + length c.args.bytes.now) (before.records ++ c.args.bytes.now ∷ []) new place grown
+          (ok_part c.append.result (sym c.if-is_err.ensures.value) c.append.ensures.stored h before.records opens);
     }
 
 pub returns-then-is_err-clause-bound : goal.returns-then-is_err-clause-bound

@@ -8,6 +8,7 @@ use Rattle.store_core.specs.disk.Contents.{next_contents}
 use Rattle.store_core.specs.disk.Files.{FilesState}
 use Rattle.store_core.specs.disk.Shares.{HasRoom}
 use Rattle.store_core.proofs.DiskProofs.AdvanceLemmas.{next_moments, next_open, old_either, own_both, own_tiers, still_open}
+use Rattle.store_core.proofs.DiskProofs.AppendLemmas.{journal_of}
 use Rattle.store_core.proofs.disk.files.Files.checkpoint.Goals as goal
 
 pub returns-in_default-clause-any_moment : goal.returns-in_default-clause-any_moment
@@ -80,9 +81,10 @@ returns-clause-ready g c before = record {
     file = ap (λ (j : JournalState). j.file) c.begun_journal-self-inside.ensures;
     generation = ap (λ (j : JournalState). j.generation) c.begun_journal-self-inside.ensures;
   };
-  opened = λ h.
+  journal = λ h.
       let there = before h in
-      (next_contents there.0 c.args.body.now there.1, returns-clause-done g c h there.0 there.1 there.2 there.3);
+      journal_of (g.H.Host.seen c.begin.new.host).past (record { number = c.self.inside.number + 1; journal = c.begun_journal-self-inside.result }) (next_contents there.0 c.args.body.now there.1)
+      (returns-clause-done g c h there.0 there.1 there.2 there.3);
 }
 
 pub returns-in_default-clause-bound : goal.returns-in_default-clause-bound
