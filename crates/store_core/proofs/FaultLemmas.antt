@@ -1,6 +1,5 @@
 -- What the faults of files are of a store.
-use Rattle.std.proofs.Common.{◌≡◌, ◌⊎◌, ℕ, inr, refl, sym, ap, ◌∙◌, false, Result, Ok, Err, is_err, IsErrOf}
-use Rattle.host_model.specs.Cause.{HasCause}
+use Rattle.std.proofs.Common.{◌≡◌, ◌⊎◌, ℕ, inr, refl, sym, ap, ◌∙◌}
 use Rattle.store_core.specs.declared.disk.fault.FilesFault.{FilesFault}
 use Rattle.store_core.specs.declared.disk.fault.FilesFault.TheVariants as files
 use Rattle.store_core.specs.declared.fault.StoreFault.{StoreFault}
@@ -38,9 +37,3 @@ read-whole (MomentOrder last) is whole = absurd is
 read-whole (Reopen cause) is whole = absurd is
 read-whole Exists is whole = absurd is
 read-whole Memory is whole = inr refl
-
--- a call that did not fail, behind one that did not
-pub ok_cause : {T E U F : Type 0} (old new : ℕ) (result : Result T E) (failure : E) (value : U) (fault : F) → is_err result ≡ false → HasCause old new (IsErrOf result failure)
-    → HasCause old new (IsErrOf {T = U} {E = F} (Ok value) fault)
-ok_cause old new (Ok given) failure value fault fine cause = record { later = cause.later; failed = λ is. absurd cc; stays = λ other. cause.stays (λ is. absurd cc) }
-ok_cause old new (Err given) failure value fault fine cause = absurd cc

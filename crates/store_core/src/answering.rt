@@ -41,10 +41,7 @@ impl Store {
         if let Some(cause) = self.fault {
             return Err(StoreFault::Reopen(cause));
         }
-        let Ok(kept) = self.tiers.kept() else {
-            return Err(StoreFault::Memory);
-        };
-        Ok(kept)
+        Ok(self.tiers.kept()?)
     }
 
     /// The beats with points above a moment that are kept of those that were applied, the earliest
@@ -71,9 +68,6 @@ impl Store {
         if let Some(cause) = self.fault {
             return Err(StoreFault::Reopen(cause));
         }
-        let Ok(found) = self.tiers.kept_above(from, most) else {
-            return Err(StoreFault::Memory);
-        };
-        Ok(found)
+        Ok(self.tiers.kept_above(from, most)?)
     }
 }

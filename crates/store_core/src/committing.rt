@@ -132,19 +132,13 @@ impl Store {
         ensures output { (H.seen host.new).tell_faults ≡ (H.seen host.old).tell_faults }
         ensures reads { (H.seen host.new).reads ≡ (H.seen host.old).reads }
     {
-        let Ok(body) = write_beat(self.alloc, beat) else {
-            return Err(StoreFault::Memory);
-        };
+        let body = write_beat(self.alloc, beat)?;
         let points = beat.points.as_slice();
-        if self.tiers.reserve(beat.moment, points).is_err() {
-            return Err(StoreFault::Memory);
-        }
+        self.tiers.reserve(beat.moment, points)?;
         if self.files.journal_bytes() > MOST {
             return Err(StoreFault::Memory);
         }
-        if self.files.append(host, body.as_slice()).is_err() {
-            return Err(StoreFault::DiskFault);
-        }
+        self.files.append(host, body.as_slice())?;
         self.tiers.take(beat.moment, points);
         self.count = self.count.saturating_add(1);
         Ok(())

@@ -1,7 +1,9 @@
 ghost use Rattle.std.specs.Prelude.{◌≡◌};
 ghost use Rattle.store_core.specs.Faults.{fault_of_files};
+ghost use Rattle.store_core.specs.declared.fault.StoreFault.TheVariants.{Memory};
 
 use crate::disk::FilesFault;
+use std::alloc::AllocError;
 use thiserror::Error;
 
 /// Why a store is of no more use.
@@ -58,6 +60,14 @@ impl StoreFault {
             | StoreFault::Reopen(_)
             | StoreFault::Exists => None,
         }
+    }
+}
+
+impl From<AllocError> for StoreFault {
+    ghost from_gives = { λ _ fault. fault ≡ Memory };
+
+    fn from(_error: AllocError) -> StoreFault {
+        StoreFault::Memory
     }
 }
 

@@ -63,10 +63,9 @@ fn read_tiers(alloc: Global, opened: &Opened) -> Result<Tiers, StoreFault>
     if !has_counted(&opened.body) {
         return Err(StoreFault::Damaged(BODY_PART));
     }
-    match tiers_of(alloc, opened) {
-        Ok(Some(tiers)) => Ok(tiers),
-        Ok(None) => Err(StoreFault::Damaged(EXTENT_PART)),
-        Err(_) => Err(StoreFault::Memory),
+    match tiers_of(alloc, opened)? {
+        Some(tiers) => Ok(tiers),
+        None => Err(StoreFault::Damaged(EXTENT_PART)),
     }
 }
 
@@ -78,10 +77,9 @@ fn read_waiting(alloc: Global, last: u32, records: &[ByteList]) -> Result<Waitin
         → (part ≡ 4) × (beats_from last records.now ≡ None) }
     ensures faults { IfErr result IsReadFault }
 {
-    match read_beats(alloc, last, records) {
-        Ok(Some(waiting)) => Ok(waiting),
-        Ok(None) => Err(StoreFault::Damaged(JOURNAL_PART)),
-        Err(_) => Err(StoreFault::Memory),
+    match read_beats(alloc, last, records)? {
+        Some(waiting) => Ok(waiting),
+        None => Err(StoreFault::Damaged(JOURNAL_PART)),
     }
 }
 
@@ -207,9 +205,7 @@ fn open_left<H: Host>(alloc: Global, host: &mut H) -> Result<Store, StoreFault>
 {
     let left = left_files(alloc, host)?;
     let waiting = read_waiting(alloc, left.body.last, left.records.as_slice())?;
-    let Ok(tiers) = left_tiers(alloc, &left) else {
-        return Err(StoreFault::Memory);
-    };
+    let tiers = left_tiers(alloc, &left)?;
     Ok(Store {
         alloc,
         files: left.files,

@@ -40,10 +40,8 @@ impl Waiting {
     pub fn add(&mut self, beat: Beat) -> Result<(), AllocError>
         ensures { OnOk result (self.new ≡ self.old ++ beat ∷ []) }
     {
-        match self.beats.push_back(beat) {
-            Ok(()) => Ok(()),
-            Err(_) => Err(AllocError),
-        }
+        self.beats.push_back(beat)?;
+        Ok(())
     }
 
     /// The first beat.

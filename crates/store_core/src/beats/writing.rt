@@ -9,7 +9,7 @@ ghost use Rattle.store_core.specs.beats.Beats.{beat_bytes, moment_bytes, point_b
 use crate::beats::beat::{Beat, BeatPoint};
 use field_codec::{FieldFault, Writer};
 use fixed_num::ByteList;
-use std::alloc::Global;
+use std::alloc::{AllocError, Global};
 
 #[tactic(auto, unfolding(crate::specs::beats::Beats::moment_bytes))]
 fn put_moment(moment: Option<u32>, writer: &mut Writer) -> Result<(), FieldFault>
@@ -61,12 +61,13 @@ fn put_beat(beat: &Beat, writer: &mut Writer) -> Result<(), FieldFault>
 }
 
 /// The bytes of a beat, as a record of a journal has them.
-pub fn write_beat(alloc: Global, beat: &Beat) -> Result<ByteList, FieldFault>
+pub fn write_beat(alloc: Global, beat: &Beat) -> Result<ByteList, AllocError>
     requires { IsShort beat.now }
-    ensures spelling { IfOk result (λ bytes. bytes ≡ beat_bytes beat.now) }
-    ensures memory { IsOkUnless result FieldFault.Memory }
+    ensures { IfOk result (λ bytes. bytes ≡ beat_bytes beat.now) }
 {
     let mut writer = Writer::new(alloc);
-    put_beat(beat, &mut writer)?;
-    Ok(writer.into_bytes())
+    match put_beat(beat, &mut writer) {
+        Ok(()) => Ok(writer.into_bytes()),
+        Err(_) => Err(AllocError),
+    }
 }

@@ -1,10 +1,12 @@
 ghost use Rattle.std.specs.Prelude.{◌≡◌};
 ghost use Rattle.store_core.specs.disk.Faults.{fault_of_body, fault_of_check, fault_of_extent, fault_of_journal};
+ghost use Rattle.store_core.specs.declared.disk.fault.FilesFault.TheVariants.{Memory};
 
 use checkpoint::CheckFault;
 use checkpoint_body::BodyFault;
 use extent_file::ExtentFault;
 use journal_core::JournalFault;
+use std::alloc::AllocError;
 use thiserror::Error;
 
 /// The part of a database that is the file of its checkpoint.
@@ -38,6 +40,14 @@ pub enum FilesFault {
     /// Memory ran out.
     #[error("out of memory")]
     Memory,
+}
+
+impl From<AllocError> for FilesFault {
+    ghost from_gives = { λ _ fault. fault ≡ Memory };
+
+    fn from(_error: AllocError) -> FilesFault {
+        FilesFault::Memory
+    }
 }
 
 impl From<CheckFault> for FilesFault {

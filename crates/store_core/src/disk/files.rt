@@ -142,9 +142,7 @@ impl Files {
             (IsErrOf result FilesFault.DiskFault) }
         ensures output { (H.seen host.new).tell_faults ≡ (H.seen host.old).tell_faults }
     {
-        let Ok(bytes) = write_body(alloc, body) else {
-            return Err(FilesFault::Memory);
-        };
+        let bytes = write_body(alloc, body)?;
         write_sealed(alloc, host, body, sealed)?;
         let next = self.number + 1;
         begin(host, next, bytes.as_slice())?;

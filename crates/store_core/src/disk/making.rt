@@ -102,9 +102,7 @@ pub fn create<H: Host>(alloc: Global, host: &mut H, body: &Body) -> Result<Files
     ensures output { (H.seen host.new).tell_faults ≡ (H.seen host.old).tell_faults }
 {
     expect_none(alloc, host)?;
-    let Ok(bytes) = write_body(alloc, body) else {
-        return Err(FilesFault::Memory);
-    };
+    let bytes = write_body(alloc, body)?;
     begin(host, 0, bytes.as_slice())?;
     Ok(Files::new(0, begun_journal(0)))
 }

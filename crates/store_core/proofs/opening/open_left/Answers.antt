@@ -18,7 +18,7 @@ returns-in_err-waiting-clause-damaged g c part is h =
 pub returns-clause-ready : goal.returns-clause-ready
 returns-clause-ready g c =
     let left = c.in_ok-left.left in
-    left-ready g.H.Host.honest (g.H.Host.seen c.left_files.new.host).past _ left.body.last left.records refl c.in-Ok.ensures.sound c.in-Ok.ensures.last
+    left-ready g.H.Host.honest (g.H.Host.seen c.left_files.new.host).past _ left.body.last left.records refl c.in_ok-tiers.ensures.sound c.in_ok-tiers.ensures.last
     (ap (beats_from left.body.last) (sym c.as_slice.ensures) ∙ c.in_ok-waiting.ensures.beats) (subst (λ (l : List (List ℕ)). AreBytes l) c.as_slice.ensures c.in_ok-waiting.ensures.bytes)
     c.in_ok-left.ensures.ready
 

@@ -1,5 +1,5 @@
 use Rattle.std.proofs.Common.{◌≡◌, ◌+◌, ◌≤◌, List, [], sym, ap, ◌∙◌, subst, arith}
-use Rattle.host_model.proofs.CallLemmas.{ok_part}
+use Rattle.std.proofs.lemmas.Result.{err_from_is_err_and}
 use Rattle.host_model.specs.Moments.{begins}
 use Rattle.journal_core.specs.Form.{record_size}
 use Rattle.beat_tiers.specs.declared.item.BeatPoint.{BeatPoint}
@@ -12,7 +12,7 @@ use Rattle.store_core.specs.disk.Shares.{share}
 use Rattle.store_core.specs.Counts.{raised}
 use Rattle.store_core.specs.Store.{IsReady, IsStoreOf, StoreState}
 use Rattle.store_core.specs.Stored.{stored_with}
-use Rattle.store_core.proofs.FaultLemmas.{ok_cause}
+use Rattle.store_core.proofs.AdvanceLemmas.{cause-of-files}
 use Rattle.store_core.proofs.FollowLemmas.{added_is, append_moments, files_ready, fits_share, may_follow, nothing_done, one_more, ready_more, unsealed}
 use Rattle.store_core.proofs.store.Store.add.Goals as goal
 
@@ -26,19 +26,19 @@ append-requires-clause-ready g c =
 
 -- where nothing was written
 
-pub returns-in_default-clause-any_moment : goal.returns-in_default-clause-any_moment
-returns-in_default-clause-any_moment g c h stored is_of =
+pub returns-in_err-body-clause-any_moment : goal.returns-in_err-body-clause-any_moment
+returns-in_err-body-clause-any_moment g c h stored is_of =
     begins (nothing_done (g.H.Host.seen c.args.host.now).past c.args.self.now stored c.args.beat.now is_of)
 
-pub returns-in_default-clause-bound : goal.returns-in_default-clause-bound
-returns-in_default-clause-bound g c side numbered h within = begins within
+pub returns-in_err-body-clause-bound : goal.returns-in_err-body-clause-bound
+returns-in_err-body-clause-bound g c side numbered h within = begins within
 
-pub returns-then-is_err-clause-any_moment : goal.returns-then-is_err-clause-any_moment
-returns-then-is_err-clause-any_moment g c h stored is_of =
+pub returns-in_err-reserve-clause-any_moment : goal.returns-in_err-reserve-clause-any_moment
+returns-in_err-reserve-clause-any_moment g c h stored is_of =
     begins (nothing_done (g.H.Host.seen c.args.host.now).past c.args.self.now stored c.args.beat.now is_of)
 
-pub returns-then-is_err-clause-bound : goal.returns-then-is_err-clause-bound
-returns-then-is_err-clause-bound g c side numbered h within = begins within
+pub returns-in_err-reserve-clause-bound : goal.returns-in_err-reserve-clause-bound
+returns-in_err-reserve-clause-bound g c side numbered h within = begins within
 
 pub returns-then-journal_bytes-gt-MOST-clause-any_moment :
     goal.returns-then-journal_bytes-gt-MOST-clause-any_moment
@@ -50,21 +50,21 @@ returns-then-journal_bytes-gt-MOST-clause-bound g c side numbered h within = beg
 
 -- and where the record was
 
-pub returns-then-is_err-2-clause-any_moment : goal.returns-then-is_err-2-clause-any_moment
-returns-then-is_err-2-clause-any_moment g c h stored is_of =
+pub returns-in_err-append-clause-any_moment : goal.returns-in_err-append-clause-any_moment
+returns-in_err-append-clause-any_moment g c h stored is_of =
     let old = (g.H.Host.seen c.args.host.now).past in
     let store = c.args.self.now in
     let same : c.self.inside.files ≡ store.files = ap (λ (s : StoreState). s.files) c.self.view_is in
-    append_moments old (g.H.Host.seen c.append.new.host).past store c.as_slice.result.now stored c.args.beat.now is_of (c.as_slice.ensures ∙ c.in-Ok.ensures.spelling)
+    append_moments old (g.H.Host.seen c.append.new.host).past store c.as_slice.result.now stored c.args.beat.now is_of (c.as_slice.ensures ∙ c.in_ok-body.ensures)
     (may_follow old store stored [] c.args.beat.now is_of c.requires.form c.requires.later (unsealed store c.requires.not_due))
     (λ contents opened. c.append.ensures.any_moment h contents (subst (λ (f : FilesState). IsOpenOf old f contents) (sym same) opened))
 
-pub returns-then-is_err-2-clause-bound : goal.returns-then-is_err-2-clause-bound
-returns-then-is_err-2-clause-bound g c side numbered h within =
+pub returns-in_err-append-clause-bound : goal.returns-in_err-append-clause-bound
+returns-in_err-append-clause-bound g c side numbered h within =
     let store = c.args.self.now in
     let shares = share store.body.settings side in
     let same : c.self.inside.files ≡ store.files = ap (λ (s : StoreState). s.files) c.self.view_is in
-    let fits = fits_share store side c.as_slice.result.now c.args.beat.now c.requires.not_due numbered (c.as_slice.ensures ∙ c.in-Ok.ensures.spelling) c.requires.size in
+    let fits = fits_share store side c.as_slice.result.now c.args.beat.now c.requires.not_due numbered (c.as_slice.ensures ∙ c.in_ok-body.ensures) c.requires.size in
     c.append.ensures.bound shares (subst (λ (f : FilesState). f.journal.bytes + record_size c.as_slice.result.now ≤ shares (journal_file f.number)) (sym same) fits) h within
 
 pub returns-clause-any_moment : goal.returns-clause-any_moment
@@ -72,7 +72,7 @@ returns-clause-any_moment g c h stored is_of =
     let old = (g.H.Host.seen c.args.host.now).past in
     let store = c.args.self.now in
     let same : c.self.inside.files ≡ store.files = ap (λ (s : StoreState). s.files) c.self.view_is in
-    append_moments old (g.H.Host.seen c.append.new.host).past store c.as_slice.result.now stored c.args.beat.now is_of (c.as_slice.ensures ∙ c.in-Ok.ensures.spelling)
+    append_moments old (g.H.Host.seen c.append.new.host).past store c.as_slice.result.now stored c.args.beat.now is_of (c.as_slice.ensures ∙ c.in_ok-body.ensures)
     (may_follow old store stored [] c.args.beat.now is_of c.requires.form c.requires.later (unsealed store c.requires.not_due))
     (λ contents opened. c.append.ensures.any_moment h contents (subst (λ (f : FilesState). IsOpenOf old f contents) (sym same) opened))
 
@@ -81,7 +81,7 @@ returns-clause-bound g c side numbered h within =
     let store = c.args.self.now in
     let shares = share store.body.settings side in
     let same : c.self.inside.files ≡ store.files = ap (λ (s : StoreState). s.files) c.self.view_is in
-    let fits = fits_share store side c.as_slice.result.now c.args.beat.now c.requires.not_due numbered (c.as_slice.ensures ∙ c.in-Ok.ensures.spelling) c.requires.size in
+    let fits = fits_share store side c.as_slice.result.now c.args.beat.now c.requires.not_due numbered (c.as_slice.ensures ∙ c.in_ok-body.ensures) c.requires.size in
     c.append.ensures.bound shares (subst (λ (f : FilesState). f.journal.bytes + record_size c.as_slice.result.now ≤ shares (journal_file f.number)) (sym same) fits) h within
 
 -- the store after it
@@ -102,9 +102,9 @@ returns-clause-stored g c h stored is_of =
     let count : c.saturating_add-self-inside.result ≡ raised c.self.inside.count = omega (arith, c.saturating_add-self-inside.ensures) in
     let whole = added_is _ store c.saturating_add-self-inside.result (tiers_held c.take.new.self) opened beat c.self.view_is count taken in
     subst (λ (s : StoreState). IsStoreOf new s (stored_with stored beat)) (sym whole)
-    (one_more old new store opened c.as_slice.result.now stored beat is_of (c.as_slice.ensures ∙ c.in-Ok.ensures.spelling)
+    (one_more old new store opened c.as_slice.result.now stored beat is_of (c.as_slice.ensures ∙ c.in_ok-body.ensures)
     (may_follow old store stored [] beat is_of c.requires.form c.requires.later (unsealed store c.requires.not_due))
-    (λ contents opened. ok_part c.append.result (sym c.if-is_err-2.ensures.value) c.append.ensures.stored h contents (subst (λ (f : FilesState). IsOpenOf old f contents) (sym same) opened)))
+    (λ contents opened. c.in_ok-append.ensures.stored h contents (subst (λ (f : FilesState). IsOpenOf old f contents) (sym same) opened)))
 
 pub returns-clause-ready : goal.returns-clause-ready
 returns-clause-ready g c =
@@ -113,9 +113,8 @@ returns-clause-ready g c =
     let store = c.args.self.now in
     let beat = c.args.beat.now in
     let opened = c.append.new.self in
-    let fine = sym c.if-is_err-2.ensures.value in
     let same : c.self.inside.files ≡ store.files = ap (λ (s : StoreState). s.files) c.self.view_is in
-    let number : opened.number ≡ store.files.number = ap (λ (f : FilesState). f.number) (ok_part c.append.result fine c.append.ensures.files) ∙ ap (λ (f : FilesState). f.number) same in
+    let number : opened.number ≡ store.files.number = ap (λ (f : FilesState). f.number) c.in_ok-append.ensures.files ∙ ap (λ (f : FilesState). f.number) same in
     let taken : tiers_held c.take.new.self ≡ after_beat beat.moment beat.points store.tiers =
     c.take.ensures
     ∙ ap (after_beat beat.moment c.as_slice-points.result.now) c.reserve.ensures.kept
@@ -125,13 +124,15 @@ returns-clause-ready g c =
     let whole = added_is _ store c.saturating_add-self-inside.result (tiers_held c.take.new.self) opened beat c.self.view_is count taken in
     subst (λ (s : StoreState). IsReady g.H.Host.honest new s) (sym whole)
     (ready_more g.H.Host.honest old new store opened c.as_slice.result.now beat c.requires.ready c.requires.replayed c.requires.form c.requires.later (unsealed store c.requires.not_due)
-    (c.as_slice.ensures ∙ c.in-Ok.ensures.spelling) c.requires.going number (ok_part c.append.result fine c.append.ensures.ready)
-    (λ h contents opened. ok_part c.append.result fine c.append.ensures.stored h contents (subst (λ (f : FilesState). IsOpenOf old f contents) (sym same) opened)))
+    (c.as_slice.ensures ∙ c.in_ok-body.ensures) c.requires.going number c.in_ok-append.ensures.ready
+    (λ h contents opened. c.in_ok-append.ensures.stored h contents (subst (λ (f : FilesState). IsOpenOf old f contents) (sym same) opened)))
 
--- what was added takes the memory that was reserved, and the disk did not fail
+-- what was added takes the memory that was reserved, and the disk failed where it did for the files
 
 pub take-requires : goal.take-requires
-take-requires g c = ok_part c.reserve.result (sym c.if-is_err.ensures.value) c.reserve.ensures.room
+take-requires g c = c.in_ok-reserve.ensures.room
 
-pub returns-clause-cause : goal.returns-clause-cause
-returns-clause-cause g c = ok_cause _ _ c.append.result _ tt _ (sym c.if-is_err-2.ensures.value) c.append.ensures.cause
+pub returns-in_err-append-clause-cause : goal.returns-in_err-append-clause-cause
+returns-in_err-append-clause-cause g c =
+    let p = err_from_is_err_and c.from_residual-in_err-append.result c.from_residual-in_err-append.ensures.1 in
+    rw p.1 (cause-of-files _ _ c.in_err-append.field-0.0 p.0 p.2 c.in_err-append.ensures.cause)

@@ -6,4 +6,4 @@ use Rattle.store_core.proofs.store.Store.kept.Goals as goal
 
 pub returns-clause-kept : goal.returns-clause-kept
 returns-clause-kept g c = λ set beats has.
-    c.in-Ok.ensures ∙ ap (λ (s : StoreState). kept_in s.tiers.points) c.self.view_is ∙ kept_by c.args.self.now set beats has
+    c.in_ok-kept.ensures ∙ ap (λ (s : StoreState). kept_in s.tiers.points) c.self.view_is ∙ kept_by c.args.self.now set beats has

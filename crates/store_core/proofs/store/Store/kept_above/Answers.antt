@@ -12,6 +12,6 @@ use Rattle.store_core.proofs.store.Store.kept_above.Goals as goal
 pub returns-clause-kept : goal.returns-clause-kept
 returns-clause-kept g c = λ set beats has.
     let ordered = points_ordered set.tiers beats c.args.self.now.tiers has.are in
-    c.in-Ok.ensures.kept (subst (λ (s : StoreState). AreOrdered (items_of s.tiers.points)) (sym c.self.view_is) ordered)
+    c.in_ok-kept_above.ensures.kept (subst (λ (s : StoreState). AreOrdered (items_of s.tiers.points)) (sym c.self.view_is) ordered)
     ∙ ap (λ (kept : Kept). take c.args.most (filter (is_above c.args.from) kept.beats))
     (ap (λ (s : StoreState). kept_in s.tiers.points) c.self.view_is ∙ kept_by c.args.self.now set beats has)

@@ -11,8 +11,8 @@ use Rattle.store_core.proofs.DiskProofs.AdvanceLemmas.{next_moments, next_open, 
 use Rattle.store_core.proofs.DiskProofs.AppendLemmas.{journal_of}
 use Rattle.store_core.proofs.disk.files.Files.checkpoint.Goals as goal
 
-pub returns-in_default-clause-any_moment : goal.returns-in_default-clause-any_moment
-returns-in_default-clause-any_moment g c h what kept is next = begins (λ disk images. inl (is.holds disk images))
+pub returns-in_err-bytes-clause-any_moment : goal.returns-in_err-bytes-clause-any_moment
+returns-in_err-bytes-clause-any_moment g c h what kept is next = begins (λ disk images. inl (is.holds disk images))
 
 pub returns-in_err-write_sealed-clause-any_moment : goal.returns-in_err-write_sealed-clause-any_moment
 returns-in_err-write_sealed-clause-any_moment g c h what kept is next =
@@ -33,7 +33,7 @@ returns-in_err-begin-clause-any_moment g c h what kept is next =
     let holds = at_end first in
     let are = c.in_ok-write_sealed.ensures.written h what kept is.holds next in
     joined (old_either what body kept old middle first)
-    (next_moments what body kept bytes (c.as_slice.ensures ∙ c.in-Ok.ensures) c.requires.spelt (c.self.inside.number + 1) follows middle new
+    (next_moments what body kept bytes (c.as_slice.ensures ∙ c.in_ok-bytes.ensures) c.requires.spelt (c.self.inside.number + 1) follows middle new
     (λ file. g.met.H.Host.reads_an_image c.write_sealed.new.host file h) holds are (c.begin.ensures.only_here h)
     (c.begin.ensures.any_moment h (new_slot what.number (body_bytes what.body)) (λ disk images. (holds disk images).checkpoint.checkpoint) follows))
 
@@ -52,7 +52,7 @@ returns-clause-any_moment g c h what kept is next =
     let holds = at_end first in
     let are = c.in_ok-write_sealed.ensures.written h what kept is.holds next in
     joined (old_either what body kept old middle first)
-    (next_moments what body kept bytes (c.as_slice.ensures ∙ c.in-Ok.ensures) c.requires.spelt (c.self.inside.number + 1) follows middle new
+    (next_moments what body kept bytes (c.as_slice.ensures ∙ c.in_ok-bytes.ensures) c.requires.spelt (c.self.inside.number + 1) follows middle new
     (λ file. g.met.H.Host.reads_an_image c.write_sealed.new.host file h) holds are (c.begin.ensures.only_here h)
     (c.begin.ensures.any_moment h (new_slot what.number (body_bytes what.body)) (λ disk images. (holds disk images).checkpoint.checkpoint) follows))
 
@@ -70,7 +70,7 @@ returns-clause-done g c h what kept is next =
     let first = c.write_sealed.ensures.any_moment h what kept is.holds next in
     let holds = at_end first in
     let are = c.in_ok-write_sealed.ensures.written h what kept is.holds next in
-    next_open what body kept bytes (c.as_slice.ensures ∙ c.in-Ok.ensures) c.requires.spelt (c.self.inside.number + 1) follows middle new
+    next_open what body kept bytes (c.as_slice.ensures ∙ c.in_ok-bytes.ensures) c.requires.spelt (c.self.inside.number + 1) follows middle new
     (λ file. g.met.H.Host.reads_an_image c.write_sealed.new.host file h) c.begun_journal-self-inside.result c.begun_journal-self-inside.ensures are (at_end (c.begin.ensures.only_here h))
     (c.in_ok-begin.ensures.begun h (new_slot what.number (body_bytes what.body)) (λ disk images. (holds disk images).checkpoint.checkpoint) follows)
     (c.in_ok-begin.ensures.journal h)
@@ -87,8 +87,8 @@ returns-clause-ready g c before = record {
       (returns-clause-done g c h there.0 there.1 there.2 there.3);
 }
 
-pub returns-in_default-clause-bound : goal.returns-in_default-clause-bound
-returns-in_default-clause-bound g c shares room slots h before = begins before
+pub returns-in_err-bytes-clause-bound : goal.returns-in_err-bytes-clause-bound
+returns-in_err-bytes-clause-bound g c shares room slots h before = begins before
 
 pub returns-in_err-write_sealed-clause-bound : goal.returns-in_err-write_sealed-clause-bound
 returns-in_err-write_sealed-clause-bound g c shares room slots h before = c.write_sealed.ensures.bound shares slots h before
@@ -96,13 +96,13 @@ returns-in_err-write_sealed-clause-bound g c shares room slots h before = c.writ
 pub returns-in_err-begin-clause-bound : goal.returns-in_err-begin-clause-bound
 returns-in_err-begin-clause-bound g c shares room slots h before =
     let first = c.write_sealed.ensures.bound shares slots h before in
-    let here = subst (λ (l : List ℕ). HasRoom shares (c.self.inside.number + 1) l) (sym (c.as_slice.ensures ∙ c.in-Ok.ensures))
+    let here = subst (λ (l : List ℕ). HasRoom shares (c.self.inside.number + 1) l) (sym (c.as_slice.ensures ∙ c.in_ok-bytes.ensures))
     (subst (λ (f : FilesState). HasRoom shares (f.number + 1) (body_bytes c.args.body.now)) (sym c.self.view_is) room) in
     joined first (c.begin.ensures.bound shares here h (at_end first))
 
 pub returns-clause-bound : goal.returns-clause-bound
 returns-clause-bound g c shares room slots h before =
     let first = c.write_sealed.ensures.bound shares slots h before in
-    let here = subst (λ (l : List ℕ). HasRoom shares (c.self.inside.number + 1) l) (sym (c.as_slice.ensures ∙ c.in-Ok.ensures))
+    let here = subst (λ (l : List ℕ). HasRoom shares (c.self.inside.number + 1) l) (sym (c.as_slice.ensures ∙ c.in_ok-bytes.ensures))
     (subst (λ (f : FilesState). HasRoom shares (f.number + 1) (body_bytes c.args.body.now)) (sym c.self.view_is) room) in
     joined first (c.begin.ensures.bound shares here h (at_end first))
