@@ -54,7 +54,7 @@ has_none (beat ∷ beats) = false
 abbrev pub stays_whole : StoreState → Bool
 stays_whole store = store.whole && (has_none store.waiting || not (can_advance store && has_sealed store.body.last store.tiers))
 
--- a checkpoint is due: a segment was sealed since the last one, or the journal has 2^24 bytes, and there can be a later one
+-- a checkpoint is due: a segment was sealed since the last one, or the journal is long, and there can be a later one
 abbrev pub is_due : StoreState → Bool
 is_due store = can_advance store && (has_sealed store.body.last store.tiers || nat_le LONG_JOURNAL store.files.journal.bytes)
 

@@ -1,9 +1,9 @@
-//! Beats as a database keeps them, and their records: a beat is a moment, points, and a note, which is bytes of the
-//! layer above.
+//! Beats as a database keeps them, and their records: a beat is a moment, points, and a note, which
+//! is bytes of the layer above.
 //!
-//! A beat in form has one spelling, which `write_beat` writes and `read_beat` reads; bytes of another form are no
-//! beat. `next_beat` reads one that may follow a moment, and `read_beats` reads all of a journal. `Waiting` holds
-//! those that wait for their replay.
+//! A beat in form has one spelling, which `write_beat` writes and `read_beat` reads; bytes of
+//! another form are no beat. `next_beat` reads one that may follow a moment, and `read_beats` reads
+//! all of a journal. `Waiting` holds those that wait for their replay.
 //!
 //! It stands on `field_codec` and `entry_codec` for the spelling, and on `beat_tiers` for points.
 

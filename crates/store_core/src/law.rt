@@ -19,9 +19,9 @@ ghost use Rattle.store_core.specs.Stored.{advanced, count_of, new_database, next
 
 /// Laws of databases, for any disk and any store; the call does nothing. A disk holds one database
 /// at most, and none where a part of it is damaged as `open` tells, which is one part then. A store
-/// that is whole, was not refused and has applied all beats is one of what is stored. That is what each crash
-/// leaves, and telling changes nothing of it. A checkpoint keeps what is stored: the count and what
-/// the tiers have.
+/// that is whole, was not refused and has applied all beats is one of what is stored. That is what
+/// each crash leaves, and telling changes nothing of it. A checkpoint keeps what is stored: the
+/// count and what the tiers have.
 pub fn one_disk_holds_one_database()
     ensures once { (stored others : AStored) (disk : AFile → List ℕ) → Stands stored disk
         → Stands others disk → stored ≡ others }
@@ -46,10 +46,11 @@ pub fn one_disk_holds_one_database()
         × (count_of (advanced stored side) ≡ count_of stored) }
 {}
 
-/// Laws of what is stored, by lists of beats as tiers see them; the call does nothing. A database that was just made has
-/// no beats. A store has applied the beats of its base and those since, and the next checkpoint has what all of them
-/// leave. The floors by which a view answers are those of the beats that were applied, and two tiers whose floors are at
-/// most where a window starts give it equal cells.
+/// Laws of what is stored, by lists of beats as tiers see them; the call does nothing. A database
+/// that was just made has no beats. A store has applied the beats of its base and those since, and
+/// the next checkpoint has what all of them leave. The floors by which a view answers are those of
+/// the beats that were applied, and two tiers whose floors are at most where a window starts give
+/// it equal cells.
 pub fn base_has_what_beats_leave()
     ensures new { (set : ASettings) (side : List ℕ) → InLimits set
         → IsBaseOf set [] (new_database set side).base }

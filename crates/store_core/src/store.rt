@@ -99,7 +99,7 @@ impl Store {
     }
 
     /// Whether a checkpoint is due: a segment was sealed since the last one, or the journal has
-    /// 2^24 bytes, and there can be a later one.
+    /// `LONG_JOURNAL` bytes, and there can be a later one.
     pub fn due(&self) -> bool
         ensures { result ≡ is_due self.now }
     {

@@ -50,7 +50,7 @@ pub record IsPoint (p : BeatPoint) : Type 0 where
   pub step : p.step < 2 ^ 32
   pub word : p.word < 2 ^ 32
 
--- a series is below 65,536, a step is 1 to 86,400, and a word is a storage number
+-- a series is below MOST_SERIES, a step is 1 to LONGEST_STEP, and a word is a storage number
 abbrev pub is_point : BeatPoint → Bool
 is_point p = nat_lt p.series MOST_SERIES && nat_le 1 p.step && nat_le p.step LONGEST_STEP && is_word p.word
 

@@ -1,5 +1,5 @@
 -- How many bytes a file may have at most, after any crash.
-use Rattle.std.specs.Prelude.{ℕ, ◌+◌, ◌*◌, ◌^◌, ◌≤◌, All, List, length, map}
+use Rattle.std.specs.Prelude.{ℕ, ◌+◌, ◌*◌, ◌≤◌, All, List, length, map}
 use Rattle.host_model.specs.declared.file.File.{File}
 use Rattle.host_model.specs.declared.file.File.TheVariants.{CheckA, CheckB, JournalA, JournalB, Tier0, Tier1, Tier2, Tier3, Tier4}
 use Rattle.host_model.specs.Images.{greatest}
@@ -13,6 +13,7 @@ use Rattle.tier_settings.specs.declared.tier.Tier.{Tier}
 use Rattle.tier_settings.specs.Settings.{tier_with}
 use Rattle.checkpoint_body.specs.declared.body.Body.{Body}
 use Rattle.checkpoint_body.specs.Size.{body_limit}
+use Rattle.store_core.specs.declared.disk.files.TheConstants.{JOURNAL_SHARE}
 use Rattle.store_core.specs.declared.disk.sealed.Sealed.{Sealed}
 use Rattle.store_core.specs.disk.Holds.{items_of, journal_file}
 use Rattle.store_core.specs.disk.Next.{written_records, written_slots, Written}
@@ -48,8 +49,8 @@ tier_share number tier = (tier.extents + 1) * slot_size number tier.items
 abbrev pub share : Settings → ℕ → File → ℕ
 share set side CheckA = HEAD + body_limit set side
 share set side CheckB = HEAD + body_limit set side
-share set side JournalA = 2 ^ 27
-share set side JournalB = 2 ^ 27
+share set side JournalA = JOURNAL_SHARE
+share set side JournalB = JOURNAL_SHARE
 share set side Tier0 = tier_share 0 (tier_with set 0)
 share set side Tier1 = tier_share 1 (tier_with set 1)
 share set side Tier2 = tier_share 2 (tier_with set 2)

@@ -19,8 +19,8 @@ pub struct Beat {
 
 impl Beat {
     /// Whether a database may keep the beat: a moment is not 0, the points are in the order of
-    /// their series, each series once and below 65,536, a step is 1 to 86,400, a word is a storage
-    /// number, and a beat without a moment has no points.
+    /// their series, each series once and below `MOST_SERIES`, a step is 1 to `LONGEST_STEP`
+    /// seconds, a word is a storage number, and a beat without a moment has no points.
     pub fn is_in_form(&self) -> bool
         ensures { IsTrue result ↔ InForm self.now }
     {

@@ -28,7 +28,7 @@ pub(crate) fn are_points(items: &[Item<Stepped>]) -> bool
     true
 }
 
-/// Whether the series of each item is below 65,536.
+/// Whether the series of each item is below `MOST_SERIES`.
 pub(crate) fn are_records(items: &[Item<Record>]) -> bool
     ensures { IsTrue result ↔ AllByRecursion IsRecordOfSeries items.now }
 {

@@ -22,6 +22,9 @@ use journal_core::Journal;
 use std::alloc::Global;
 use std::marker::Model;
 
+/// The most bytes of a journal's file, while there can be a later checkpoint.
+pub const JOURNAL_SHARE: u64 = 1 << 27;
+
 /// The open files of a database: the number of its checkpoint, and the journal since.
 #[derive(Debug, Drop)]
 pub struct Files {

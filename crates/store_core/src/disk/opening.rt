@@ -183,10 +183,10 @@ fn load_kept<H: Host>(alloc: Global, host: &mut H) -> Result<Loaded, FilesFault>
     Ok(Loaded { checkpoint, kept })
 }
 
-/// Opens the database on the disk: its checkpoint, the extents that it names, and the journal since. It
-/// syncs these files, and else only reads. `NotADatabase` where there is no checkpoint, `Damaged` where a
-/// part is damaged, the first in their order, `Memory` where memory ran out, and `DiskFault` where a call
-/// on the disk failed. It can be called again after each.
+/// Opens the database on the disk: its checkpoint, the extents that it names, and the journal
+/// since. It syncs these files, and else only reads. `NotADatabase` where there is no checkpoint,
+/// `Damaged` where a part is damaged, the first in their order, `Memory` where memory ran out, and
+/// `DiskFault` where a call on the disk failed. It can be called again after each.
 pub fn open<H: Host>(alloc: Global, host: &mut H) -> Result<Opened, FilesFault>
     ensures holds { IfOk result (λ opened. H.honest
         → Holds (contents_of opened) (reads_as (H.seen host.old).past)) }

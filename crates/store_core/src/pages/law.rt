@@ -16,10 +16,10 @@ ghost use Rattle.extent_file.specs.declared.sizes.TheConstants.{MOST_SLOTS};
 ghost use Rattle.store_core.specs.pages.Items.{HaveItems, HaveRecords};
 ghost use Rattle.store_core.specs.pages.Pages.{AreRecordPagesOf, AreSlotPagesOf};
 
-/// The laws of the pages of a segment. Two lists in their order that pages have are one. The pages may
-/// be written as an extent into a slot of a tier whose segments are sealed once they have so many
-/// items, where the segment has fewer than 65,536 more. Pages that have the form of a checkpoint's body
-/// end in time, and those of records have a step. It does nothing.
+/// The laws of the pages of a segment. Two lists in their order that pages have are one. The pages
+/// may be written as an extent into a slot of a tier whose segments are sealed once they have so
+/// many items, where the segment has fewer than `MOST_SERIES` more. Pages that have the form of a
+/// checkpoint's body end in time, and those of records have a step. It does nothing.
 pub fn pages_determine_their_items()
     ensures one_order { (pages : List ASlotPage) (one other : List (AnItem AStepped))
         → AreOrdered one → AreOrdered other → HaveItems pages one → HaveItems pages other
