@@ -6,7 +6,8 @@ use checkpoint::CheckFault;
 use checkpoint_body::BodyFault;
 use extent_file::ExtentFault;
 use journal_core::JournalFault;
-use std::alloc::AllocError;
+use page_pool::PoolFault;
+use std::alloc::{AllocError, AllocFailed};
 use thiserror::Error;
 
 /// The part of a database that is the file of its checkpoint.
@@ -46,6 +47,22 @@ impl From<AllocError> for FilesFault {
     ghost from_gives = { λ _ fault. fault ≡ Memory };
 
     fn from(_error: AllocError) -> FilesFault {
+        FilesFault::Memory
+    }
+}
+
+impl<T: Drop> From<AllocFailed<T>> for FilesFault {
+    ghost from_gives = { λ _ fault. fault ≡ Memory };
+
+    fn from(_error: AllocFailed<T>) -> FilesFault {
+        FilesFault::Memory
+    }
+}
+
+impl From<PoolFault> for FilesFault {
+    ghost from_gives = { λ _ fault. fault ≡ Memory };
+
+    fn from(_error: PoolFault) -> FilesFault {
         FilesFault::Memory
     }
 }

@@ -13,9 +13,7 @@ pub(crate) fn words_in(alloc: Global, page: &SlotPage) -> Result<WordList, Files
     let (_, _, _, count) = page.head();
     let mut words = WordList::new(alloc);
     for place in 0..count {
-        if words.push(page.word(place)).is_err() {
-            return Err(FilesFault::Memory);
-        }
+        words.push(page.word(place))?;
     }
     Ok(words)
 }
@@ -28,9 +26,7 @@ pub(crate) fn records_in(alloc: Global, page: &RecordPage) -> Result<RecordList,
     let (_, _, _, count) = page.head();
     let mut records = RecordList::new(alloc);
     for place in 0..count {
-        if records.push(page.record(place)).is_err() {
-            return Err(FilesFault::Memory);
-        }
+        records.push(page.record(place))?;
     }
     Ok(records)
 }

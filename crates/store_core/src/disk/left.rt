@@ -107,9 +107,7 @@ fn left_slot_pages<H: Host>(
     let mut pages = SlotPageList::new(alloc);
     for index in 0..extent.entries() {
         if let Some(page) = left_slot_page(alloc, host, pool, extent, index)? {
-            if pages.push(page).is_err() {
-                return Err(FilesFault::Memory);
-            }
+            pages.push(page)?;
         }
     }
     Ok(pages)
@@ -132,9 +130,7 @@ fn left_record_pages<H: Host>(
     let mut pages = RecordPageList::new(alloc);
     for index in 0..extent.entries() {
         if let Some(page) = left_record_page(alloc, host, pool, extent, index)? {
-            if pages.push(page).is_err() {
-                return Err(FilesFault::Memory);
-            }
+            pages.push(page)?;
         }
     }
     Ok(pages)
@@ -213,9 +209,7 @@ fn left_points<H: Host>(
     let mut kept = ListOf::new(alloc);
     for extent in extents {
         let pages = left_slots(alloc, host, pool, items, extent)?;
-        if kept.push(pages).is_err() {
-            return Err(FilesFault::Memory);
-        }
+        kept.push(pages)?;
     }
     Ok(kept)
 }
@@ -245,9 +239,7 @@ fn left_tier<H: Host>(
     let mut kept = ListOf::new(alloc);
     for extent in extents {
         let pages = left_records(alloc, host, pool, file, items, extent)?;
-        if kept.push(pages).is_err() {
-            return Err(FilesFault::Memory);
-        }
+        kept.push(pages)?;
     }
     Ok(kept)
 }

@@ -1,6 +1,6 @@
 //! Pages as a checkpoint's body has them, put into the pages of an extent.
 
-ghost use Rattle.std.specs.Prelude.{◌≡◌, ◌<◌, All, [], ◌∷◌, ◌++◌, map, IfOk, OnOk, IsOkUnless};
+ghost use Rattle.std.specs.Prelude.{◌≡◌, ◌<◌, All, [], map, IfOk, IsOkUnless};
 ghost use Rattle.page_buffer.specs.Page.{page_of};
 ghost use Rattle.page_buffer.specs.Records.{AreRecords};
 ghost use Rattle.page_buffer.specs.Slots.{AreSlots};
@@ -20,10 +20,8 @@ fn raw_page(alloc: Global) -> Result<RawPage, FilesFault>
     ensures memory { IsOkUnless result FilesFault.Memory }
 {
     let mut pool = PagePool::new(alloc);
-    if pool.reserve(1).is_err() {
-        return Err(FilesFault::Memory);
-    }
-    pool.take().ok_or(FilesFault::Memory)
+    pool.reserve(1)?;
+    Ok(pool.take().unwrap())
 }
 
 /// Puts the words of slots into a page that has none. An empty slot is left by the point behind it.
@@ -73,14 +71,6 @@ fn record_page(alloc: Global, page: &body::RecordPage) -> Result<Page, FilesFaul
     Ok(Page::Records(made))
 }
 
-/// Adds a page to those of an extent.
-fn push(pages: &mut PageList, page: Page) -> Result<(), FilesFault>
-    ensures ok { OnOk result (pages.new ≡ pages.old ++ page ∷ []) }
-    ensures memory { IsOkUnless result FilesFault.Memory }
-{
-    pages.push(page).map_err(|_| FilesFault::Memory)
-}
-
 /// The pages of an extent of points.
 pub(crate) fn slot_pages(alloc: Global, pages: &[body::SlotPage]) -> Result<PageList, FilesFault>
     requires { All IsFormed (map page_of_slots pages.now) }
@@ -89,7 +79,7 @@ pub(crate) fn slot_pages(alloc: Global, pages: &[body::SlotPage]) -> Result<Page
 {
     let mut made = PageList::new(alloc);
     for page in pages {
-        push(&mut made, slot_page(alloc, page)?)?;
+        made.push(slot_page(alloc, page)?)?;
     }
     Ok(made)
 }
@@ -105,7 +95,7 @@ pub(crate) fn record_pages(
 {
     let mut made = PageList::new(alloc);
     for page in pages {
-        push(&mut made, record_page(alloc, page)?)?;
+        made.push(record_page(alloc, page)?)?;
     }
     Ok(made)
 }

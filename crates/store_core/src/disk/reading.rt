@@ -69,9 +69,7 @@ pub(crate) fn open_extent<H: Host>(
 fn raw_page(pool: &mut PagePool) -> Result<RawPage, FilesFault>
     ensures { IfErr result (λ fault. fault ≡ FilesFault.Memory) }
 {
-    if pool.reserve(1).is_err() {
-        return Err(FilesFault::Memory);
-    }
+    pool.reserve(1)?;
     Ok(pool.take().unwrap())
 }
 
@@ -221,9 +219,7 @@ fn read_slot_pages<H: Host>(
     let mut pages = SlotPageList::new(alloc);
     for index in 0..extent.entries() {
         let page = read_slot_page(alloc, host, pool, extent, index)?;
-        if pages.push(page).is_err() {
-            return Err(FilesFault::Memory);
-        }
+        pages.push(page)?;
     }
     Ok(pages)
 }
@@ -281,9 +277,7 @@ fn read_record_pages<H: Host>(
     let mut pages = RecordPageList::new(alloc);
     for index in 0..extent.entries() {
         let page = read_record_page(alloc, host, pool, extent, index)?;
-        if pages.push(page).is_err() {
-            return Err(FilesFault::Memory);
-        }
+        pages.push(page)?;
     }
     Ok(pages)
 }
@@ -344,9 +338,7 @@ fn read_points<H: Host>(
     let mut kept = ListOf::new(alloc);
     for extent in extents {
         let pages = read_slots(alloc, host, pool, items, extent)?;
-        if kept.push(pages).is_err() {
-            return Err(FilesFault::Memory);
-        }
+        kept.push(pages)?;
     }
     Ok(kept)
 }
@@ -380,9 +372,7 @@ fn read_tier<H: Host>(
     let mut kept = ListOf::new(alloc);
     for extent in extents {
         let pages = read_records(alloc, host, pool, file, items, extent)?;
-        if kept.push(pages).is_err() {
-            return Err(FilesFault::Memory);
-        }
+        kept.push(pages)?;
     }
     Ok(kept)
 }

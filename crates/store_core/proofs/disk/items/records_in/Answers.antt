@@ -1,9 +1,7 @@
-use Rattle.std.proofs.Common.{sym}
-use Rattle.host_model.proofs.CallLemmas.{ok_part}
 use Rattle.store_core.proofs.DiskProofs.ItemLemmas.{taken_more}
 use Rattle.store_core.proofs.disk.items.records_in.Goals as goal
 
 pub loop-place-preserved : goal.loop-place-preserved
 loop-place-preserved c =
     taken_more c.args.page.now.items c.loop-place.records c.push.new.self c.loop-place.place c.record.result c.loop-place.invariant c.record.ensures
-    (ok_part c.push.result (sym c.if-is_err.ensures.value) c.push.ensures.ok)
+    c.in_ok-push.ensures.ok

@@ -2,7 +2,6 @@ use Rattle.std.proofs.Common.{List, map, drop, rules, sym, ◌∙◌, subst, ari
 use Rattle.std.proofs.lemmas.List.{take_all}
 use Rattle.host_model.specs.Images.{contents}
 use Rattle.host_model.specs.Past.{Event, of}
-use Rattle.host_model.proofs.CallLemmas.{ok_part}
 use Rattle.extent_file.specs.declared.entry.Entry.{Entry}
 use Rattle.extent_file.specs.Slot.{tier_of}
 use Rattle.store_core.specs.disk.Holds.{page_of_slots}
@@ -29,7 +28,7 @@ loop-index-preserved g c = record {
       let old = (g.H.Host.seen c.args.host.now).past in
       let there = item_there extent.entries c.loop-index.index (omega arith) in
       read_more page_of_slots (tier_of extent.file) (drop extent.start (contents (of extent.file old))) extent.entries c.loop-index.index there.0 c.loop-index.pages c.push.new.self c.in_ok-page.page
-      there.1 (ok_part c.push.result (sym c.if-is_err.ensures.value) c.push.ensures.ok) (c.loop-index.invariant.named h)
+      there.1 c.in_ok-push.ensures.ok (c.loop-index.invariant.named h)
       (subst (λ (past : List Event). IsNamed (tier_of extent.file) (drop extent.start (contents (of extent.file past))) there.0 (page_of_slots c.in_ok-page.page))
       (c.loop-index.invariant.past h) (c.in_ok-page.ensures.page h there.0 there.1));
   faults = search rules;

@@ -2,7 +2,6 @@ use Rattle.std.proofs.Common.{ℕ, ◌+◌, List, get_or, length, map, rules, sy
 use Rattle.std.proofs.lemmas.List.{get_or_default, length_push}
 use Rattle.host_model.specs.Images.{contents}
 use Rattle.host_model.specs.Past.{Event, of}
-use Rattle.host_model.proofs.CallLemmas.{ok_part}
 use Rattle.extent_file.specs.Slot.{tier_of}
 use Rattle.checkpoint_body.specs.declared.body.Extent.{Extent}
 use Rattle.store_core.specs.disk.Holds.{page_of_records, LiesAs}
@@ -30,10 +29,10 @@ loop-extent-preserved g c = record {
       let extent = get_or c.args.extents.now c.loop-extent.extent-index none in
       kept_more page_of_records (tier_of c.args.file) c.args.items (contents (of c.args.file old)) c.args.extents.now c.loop-extent.extent-index extent c.loop-extent.kept c.push.new.self c.in_ok-pages.pages
       c.loop-extent-test.true (get_or_default c.args.extents.now c.loop-extent.extent-index none extent c.loop-extent-test.true)
-      (ok_part c.push.result (sym c.if-is_err.ensures.value) c.push.ensures.ok) (c.loop-extent.invariant.lie h)
+      c.in_ok-push.ensures.ok (c.loop-extent.invariant.lie h)
       (subst (λ (past : List Event). LiesAs (tier_of c.args.file) c.args.items (contents (of c.args.file past)) extent (map page_of_records c.in_ok-pages.pages))
       (c.loop-extent.invariant.past h) (c.in_ok-pages.ensures.lies h));
-  counted = ap length (ok_part c.push.result (sym c.if-is_err.ensures.value) c.push.ensures.ok) ∙ length_push c.loop-extent.kept c.in_ok-pages.pages
+  counted = ap length c.in_ok-push.ensures.ok ∙ length_push c.loop-extent.kept c.in_ok-pages.pages
       ∙ ap (λ (n : ℕ). n + 1) c.loop-extent.invariant.counted;
   faults = search rules;
   output = search rules;
