@@ -1,10 +1,11 @@
 ghost use Rattle.std.specs.Prelude.{◌≡◌};
 ghost use Rattle.store_core.specs.disk.Faults.{fault_of_body, fault_of_check, fault_of_extent, fault_of_journal};
-ghost use Rattle.store_core.specs.declared.disk.fault.FilesFault.TheVariants.{Memory};
+ghost use Rattle.store_core.specs.declared.disk.fault.FilesFault.TheVariants.{DiskFault, Memory};
 
 use checkpoint::CheckFault;
 use checkpoint_body::BodyFault;
 use extent_file::ExtentFault;
+use host_model::Failed;
 use journal_core::JournalFault;
 use page_pool::PoolFault;
 use std::alloc::{AllocError, AllocFailed};
@@ -41,6 +42,14 @@ pub enum FilesFault {
     /// Memory ran out.
     #[error("out of memory")]
     Memory,
+}
+
+impl From<Failed> for FilesFault {
+    ghost from_gives = { λ _ fault. fault ≡ DiskFault };
+
+    fn from(_error: Failed) -> FilesFault {
+        FilesFault::DiskFault
+    }
 }
 
 impl From<AllocError> for FilesFault {

@@ -89,10 +89,8 @@ fn settle<H: Host>(host: &mut H, file: File) -> Result<(), FilesFault>
         (IsErrOf result FilesFault.DiskFault) }
     ensures output { (H.seen host.new).tell_faults ≡ (H.seen host.old).tell_faults }
 {
-    match host.sync(file) {
-        Ok(()) => Ok(()),
-        Err(_) => Err(FilesFault::DiskFault),
-    }
+    host.sync(file)?;
+    Ok(())
 }
 
 /// Makes the files of the tiers hold what they read as.

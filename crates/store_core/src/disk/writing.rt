@@ -86,9 +86,7 @@ pub(crate) fn write_segments<H: Host, S: Segment>(
         (IsErrOf result FilesFault.DiskFault) }
     ensures output { (H.seen host.new).tell_faults ≡ (H.seen host.old).tell_faults }
 {
-    if host.sync(file).is_err() {
-        return Err(FilesFault::DiskFault);
-    }
+    host.sync(file)?;
     for segment in segments {
         write_segment(alloc, host, file, items, segment)?;
     }

@@ -4,7 +4,6 @@ use Rattle.std.proofs.lemmas.List.{get_or-map, length-map}
 use Rattle.host_model.specs.Images.{Synced, contents}
 use Rattle.host_model.specs.Past.{of}
 use Rattle.host_model.specs.Moments.{OnlyOn, begins}
-use Rattle.host_model.proofs.CallLemmas.{ok_part}
 use Rattle.host_model.proofs.MomentLemmas.{at_end, joined, OnlyOn-change, OnlyOn-joined, OnlyOn-same}
 use Rattle.host_model.proofs.RunLemmas.{images_in_sync}
 use Rattle.extent_file.specs.Slot.{tier_of, slot_size, slot_start}
@@ -15,24 +14,23 @@ use Rattle.store_core.proofs.DiskProofs.ListLemmas.{item_of_map}
 use Rattle.store_core.proofs.DiskProofs.WriteLemmas.{before_apart, stand_at_start, stand_before, stand_each, stand_more, synced_after}
 use Rattle.store_core.proofs.disk.writing.write_segments.Goals as goal
 
-pub returns-then-is_err-clause-stays : goal.returns-then-is_err-clause-stays
-returns-then-is_err-clause-stays g c h others beside held =
+pub returns-in_err-sync-clause-stays : goal.returns-in_err-sync-clause-stays
+returns-in_err-sync-clause-stays g c h others beside held =
     images_in_sync (AllStand (tier_of c.args.file) c.args.items others) g.H.Host.honest c.sync.result c.args.file (g.H.Host.seen c.args.host.now).past (g.H.Host.seen c.sync.new.self).past h
     c.sync.ensures.done c.sync.ensures.torn (g.met.H.Host.reads_an_image c.args.host.now c.args.file h) held
 
 pub loop-segment-init : goal.loop-segment-init
 loop-segment-init g c =
     let old = (g.H.Host.seen c.args.host.now).past in
-    let new = (g.H.Host.seen c.sync.new.self).past in
-    let fine = sym c.if-is_err.ensures.value in (
-      λ h. synced_after c.args.file old new (ok_part c.sync.result fine c.sync.ensures.done h),
+    let new = (g.H.Host.seen c.sync.new.self).past in (
+      λ h. synced_after c.args.file old new (c.in_ok-sync.ensures.done h),
       λ h others beside held.
           images_in_sync (AllStand (tier_of c.args.file) c.args.items others) g.H.Host.honest c.sync.result c.args.file old new h
           c.sync.ensures.done c.sync.ensures.torn (g.met.H.Host.reads_an_image c.args.host.now c.args.file h) held,
       λ h k d within. absurd (omega (arith, within)),
       λ h.
-          subst (OnlyOn c.args.file old) (sym (ok_part c.sync.result fine c.sync.ensures.done h)) (OnlyOn-change c.args.file Synced old old (OnlyOn-same c.args.file old)),
-      c.sync.ensures.cause.stays (λ failed. cc),
+          subst (OnlyOn c.args.file old) (sym (c.in_ok-sync.ensures.done h)) (OnlyOn-change c.args.file Synced old old (OnlyOn-same c.args.file old)),
+      c.in_ok-sync.ensures.cause.stays (λ failed. cc),
       c.sync.ensures.output,
       λ size fits h before.
           within_sync g.H.Host.honest c.sync.result size c.args.file old old new h c.sync.ensures.done c.sync.ensures.torn
@@ -103,8 +101,8 @@ returns-clause-held g c h =
     stand_at_start c.args.file c.args.items (g.H.Host.seen c.loop-segment.host).past segments (c.loop-segment.invariant.0 h)
     (λ k d within. c.loop-segment.invariant.2 h k d (omega (arith, within, done, long)))
 
-pub returns-then-is_err-clause-bound : goal.returns-then-is_err-clause-bound
-returns-then-is_err-clause-bound g c size fits h before =
+pub returns-in_err-sync-clause-bound : goal.returns-in_err-sync-clause-bound
+returns-in_err-sync-clause-bound g c size fits h before =
     let old = (g.H.Host.seen c.args.host.now).past in
     within_sync g.H.Host.honest c.sync.result size c.args.file old old (g.H.Host.seen c.sync.new.self).past h c.sync.ensures.done c.sync.ensures.torn
     (g.met.H.Host.reads_an_image c.args.host.now c.args.file h) (begins before)
