@@ -62,11 +62,7 @@ pub(crate) fn begin<H: Host>(host: &mut H, number: u64, body: &[u8]) -> Result<(
         (IsErrOf result FilesFault.DiskFault) }
     ensures output { (H.seen host.new).tell_faults ≡ (H.seen host.old).tell_faults }
 {
-    if prepare(host, journal_file_of(number), number).is_err() {
-        return Err(FilesFault::DiskFault);
-    }
-    if switch(host, number, body).is_err() {
-        return Err(FilesFault::DiskFault);
-    }
+    prepare(host, journal_file_of(number), number)?;
+    switch(host, number, body)?;
     Ok(())
 }

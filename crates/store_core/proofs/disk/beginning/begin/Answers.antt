@@ -1,37 +1,38 @@
-use Rattle.std.proofs.Common.{◌+◌, length, sym, arith, ◌≤◌, subst}
+use Rattle.std.proofs.Common.{◌+◌, length, sym, ap, arith, ◌≤◌, subst}
 use Rattle.host_model.specs.Images.{greatest}
 use Rattle.host_model.specs.Past.{of}
-use Rattle.host_model.proofs.CallLemmas.{ok_part}
+use Rattle.std.proofs.lemmas.Result.{err_from_is_err_and}
 use Rattle.host_model.proofs.MomentLemmas.{at_end, joined}
 use Rattle.checkpoint.specs.Files.{slot_file}
 use Rattle.host_model.specs.declared.file.File.{File}
+use Rattle.store_core.specs.disk.Faults.{fault_of_check, fault_of_journal}
+use Rattle.store_core.proofs.DiskProofs.FaultLemmas.{cause_after, check_cause, journal_cause}
 use Rattle.store_core.proofs.DiskProofs.ShareLemmas.{within_on}
 use Rattle.store_core.proofs.DiskProofs.BeginLemmas.{begun_disks, checkpoint_stays, journal_empty, not_yet, only_check, only_journal, switches}
 use Rattle.store_core.proofs.disk.beginning.begin.Goals as goal
 
-pub returns-then-is_err-clause-any_moment : goal.returns-then-is_err-clause-any_moment
-returns-then-is_err-clause-any_moment g c h slot held next =
+pub returns-in_err-prepare-clause-any_moment : goal.returns-in_err-prepare-clause-any_moment
+returns-in_err-prepare-clause-any_moment g c h slot held next =
     let old = (g.H.Host.seen c.args.host.now).past in let new = (g.H.Host.seen c.prepare.new.host).past in
     not_yet c.args.number c.args.body.now slot old new
     (checkpoint_stays c.args.number c.journal_file_of.result slot old new c.journal_file_of.ensures (g.met.H.Host.reads_an_image c.args.host.now c.journal_file_of.result h) held (c.prepare.ensures.any_moment h))
 
-pub returns-then-is_err-clause-only_here : goal.returns-then-is_err-clause-only_here
-returns-then-is_err-clause-only_here g c h =
+pub returns-in_err-prepare-clause-only_here : goal.returns-in_err-prepare-clause-only_here
+returns-in_err-prepare-clause-only_here g c h =
     only_journal c.args.number c.journal_file_of.result (g.H.Host.seen c.args.host.now).past (g.H.Host.seen c.prepare.new.host).past c.journal_file_of.ensures (c.prepare.ensures.any_moment h)
 
-pub returns-then-is_err-2-clause-any_moment : goal.returns-then-is_err-2-clause-any_moment
-returns-then-is_err-2-clause-any_moment g c h slot held next =
+pub returns-in_err-switch-clause-any_moment : goal.returns-in_err-switch-clause-any_moment
+returns-in_err-switch-clause-any_moment g c h slot held next =
     let number = c.args.number in let body = c.args.body.now in let file = c.journal_file_of.result in
     let old = (g.H.Host.seen c.args.host.now).past in let middle = (g.H.Host.seen c.prepare.new.host).past in let new = (g.H.Host.seen c.switch.new.host).past in
-    let fine = sym c.if-is_err.ensures.value in
     let first = checkpoint_stays number file slot old middle c.journal_file_of.ensures (g.met.H.Host.reads_an_image c.args.host.now file h) held (c.prepare.ensures.any_moment h) in
     joined (not_yet number body slot old middle first)
     (switches number body slot middle new (g.met.H.Host.reads_an_image c.prepare.new.host (slot_file number) h) (c.switch.ensures.only_here h)
-    (journal_empty number file middle c.journal_file_of.ensures (ok_part c.prepare.result fine c.prepare.ensures.synced h) (ok_part c.prepare.result fine c.prepare.ensures.empty h))
+    (journal_empty number file middle c.journal_file_of.ensures (c.in_ok-prepare.ensures.synced h) (c.in_ok-prepare.ensures.empty h))
     (c.switch.ensures.any_moment h slot (at_end first) next))
 
-pub returns-then-is_err-2-clause-only_here : goal.returns-then-is_err-2-clause-only_here
-returns-then-is_err-2-clause-only_here g c h =
+pub returns-in_err-switch-clause-only_here : goal.returns-in_err-switch-clause-only_here
+returns-in_err-switch-clause-only_here g c h =
     let number = c.args.number in let file = c.journal_file_of.result in
     let old = (g.H.Host.seen c.args.host.now).past in let middle = (g.H.Host.seen c.prepare.new.host).past in let new = (g.H.Host.seen c.switch.new.host).past in
     joined (only_journal number file old middle c.journal_file_of.ensures (c.prepare.ensures.any_moment h))
@@ -42,11 +43,10 @@ pub returns-clause-any_moment : goal.returns-clause-any_moment
 returns-clause-any_moment g c h slot held next =
     let number = c.args.number in let body = c.args.body.now in let file = c.journal_file_of.result in
     let old = (g.H.Host.seen c.args.host.now).past in let middle = (g.H.Host.seen c.prepare.new.host).past in let new = (g.H.Host.seen c.switch.new.host).past in
-    let fine = sym c.if-is_err.ensures.value in
     let first = checkpoint_stays number file slot old middle c.journal_file_of.ensures (g.met.H.Host.reads_an_image c.args.host.now file h) held (c.prepare.ensures.any_moment h) in
     joined (not_yet number body slot old middle first)
     (switches number body slot middle new (g.met.H.Host.reads_an_image c.prepare.new.host (slot_file number) h) (c.switch.ensures.only_here h)
-    (journal_empty number file middle c.journal_file_of.ensures (ok_part c.prepare.result fine c.prepare.ensures.synced h) (ok_part c.prepare.result fine c.prepare.ensures.empty h))
+    (journal_empty number file middle c.journal_file_of.ensures (c.in_ok-prepare.ensures.synced h) (c.in_ok-prepare.ensures.empty h))
     (c.switch.ensures.any_moment h slot (at_end first) next))
 
 pub returns-clause-only_here : goal.returns-clause-only_here
@@ -61,21 +61,20 @@ pub returns-clause-begun : goal.returns-clause-begun
 returns-clause-begun g c h slot held next =
     let number = c.args.number in let body = c.args.body.now in let file = c.journal_file_of.result in
     let old = (g.H.Host.seen c.args.host.now).past in let middle = (g.H.Host.seen c.prepare.new.host).past in let new = (g.H.Host.seen c.switch.new.host).past in
-    let fine = sym c.if-is_err.ensures.value in
     let first = checkpoint_stays number file slot old middle c.journal_file_of.ensures (g.met.H.Host.reads_an_image c.args.host.now file h) held (c.prepare.ensures.any_moment h) in
     begun_disks number file body middle new c.journal_file_of.ensures (c.switch.ensures.only_here h)
-    (ok_part c.prepare.result fine c.prepare.ensures.synced h) (ok_part c.prepare.result fine c.prepare.ensures.empty h)
-    (ok_part c.switch.result (sym c.if-is_err-2.ensures.value) c.switch.ensures.switched h slot (at_end first) next)
+    (c.in_ok-prepare.ensures.synced h) (c.in_ok-prepare.ensures.empty h)
+    (c.in_ok-switch.ensures.switched h slot (at_end first) next)
 
-pub returns-then-is_err-clause-bound : goal.returns-then-is_err-clause-bound
-returns-then-is_err-clause-bound g c shares room h before =
+pub returns-in_err-prepare-clause-bound : goal.returns-in_err-prepare-clause-bound
+returns-in_err-prepare-clause-bound g c shares room h before =
     let file = c.journal_file_of.result in
     let room17 : 17 ≤ shares file = subst (λ (f : File). 17 ≤ shares f) (sym c.journal_file_of.ensures) room.journal in
     within_on shares file (g.H.Host.seen c.args.host.now).past (g.H.Host.seen c.prepare.new.host).past (at_end (c.prepare.ensures.any_moment h)) before
     (c.prepare.ensures.bound (shares file) room17 h (before file))
 
-pub returns-then-is_err-2-clause-bound : goal.returns-then-is_err-2-clause-bound
-returns-then-is_err-2-clause-bound g c shares room h before =
+pub returns-in_err-switch-clause-bound : goal.returns-in_err-switch-clause-bound
+returns-in_err-switch-clause-bound g c shares room h before =
     let number = c.args.number in let file = c.journal_file_of.result in
     let old = (g.H.Host.seen c.args.host.now).past in let middle = (g.H.Host.seen c.prepare.new.host).past in let new = (g.H.Host.seen c.switch.new.host).past in
     let room17 : 17 ≤ shares file = subst (λ (f : File). 17 ≤ shares f) (sym c.journal_file_of.ensures) room.journal in
@@ -95,3 +94,23 @@ returns-clause-bound g c shares room h before =
     joined first
     (within_on shares (slot_file number) middle new (c.switch.ensures.only_here h) there
     (c.switch.ensures.bound (shares (slot_file number)) (omega (arith, room.checkpoint)) h (there (slot_file number))))
+
+pub returns-in_err-prepare-clause-faults : goal.returns-in_err-prepare-clause-faults
+returns-in_err-prepare-clause-faults g c =
+    let p = err_from_is_err_and c.from_residual.result c.from_residual.ensures.1 in
+    rw (p.1, p.2) (ap fault_of_journal c.in_err-prepare.ensures.faults)
+
+pub returns-in_err-prepare-clause-cause : goal.returns-in_err-prepare-clause-cause
+returns-in_err-prepare-clause-cause g c =
+    let p = err_from_is_err_and c.from_residual.result c.from_residual.ensures.1 in
+    rw (p.1, p.2) (journal_cause _ _ c.in_err-prepare.field-0.0 c.in_err-prepare.ensures.cause)
+
+pub returns-in_err-switch-clause-faults : goal.returns-in_err-switch-clause-faults
+returns-in_err-switch-clause-faults g c =
+    let p = err_from_is_err_and c.from_residual-in_err-switch.result c.from_residual-in_err-switch.ensures.1 in
+    rw (p.1, p.2) (ap fault_of_check c.in_err-switch.ensures.faults)
+
+pub returns-in_err-switch-clause-cause : goal.returns-in_err-switch-clause-cause
+returns-in_err-switch-clause-cause g c =
+    let p = err_from_is_err_and c.from_residual-in_err-switch.result c.from_residual-in_err-switch.ensures.1 in
+    rw (p.1, p.2) (cause_after _ _ _ (c.in_ok-prepare.ensures.cause.stays (λ failed. cc)) (check_cause _ _ c.in_err-switch.field-0.0 c.in_err-switch.ensures.cause))
