@@ -15,6 +15,7 @@ use Rattle.store_core.specs.declared.disk.fault.FilesFault.{FilesFault}
 use Rattle.store_core.specs.declared.disk.fault.FilesFault.TheVariants.{DiskFault, NotADatabase, Damaged, Memory}
 use Rattle.store_core.specs.disk.Faults.{fault_of_body, fault_of_check, fault_of_extent, fault_of_journal}
 use Rattle.store_core.specs.disk.Opening.{IsOpenFault}
+use Rattle.store_core.specs.disk.Reading.{IsExtentFault}
 
 -- a count of failures has the same cause, said in another way
 same_cause : (old new : ℕ) {P Q : Type 0} → (P → Q) → (Q → P) → HasCause old new P → HasCause old new Q
@@ -86,6 +87,16 @@ pub extent_written : (fault : ExtentFault) → ((place : ℕ) → fault ≡ exte
 extent_written extent.DiskFault not_bad = inl refl
 extent_written (extent.BadExtent place) not_bad = absurd (not_bad place refl)
 extent_written extent.Memory not_bad = inr refl
+
+pub extent_damaged : (fault : ExtentFault) (part : ℕ) → fault_of_extent fault ≡ Damaged part → (place : ℕ) × (fault ≡ extent.BadExtent place)
+extent_damaged extent.DiskFault part is = cc
+extent_damaged (extent.BadExtent place) part is = (place, refl)
+extent_damaged extent.Memory part is = cc
+
+pub extent_reads : (fault : ExtentFault) → IsExtentFault (fault_of_extent fault)
+extent_reads extent.DiskFault = inl refl
+extent_reads (extent.BadExtent place) = inr (inr refl)
+extent_reads extent.Memory = inr (inl refl)
 
 -- ---- the journal
 journal_disk : (fault : JournalFault) → fault_of_journal fault ≡ DiskFault → fault ≡ journal.DiskFault

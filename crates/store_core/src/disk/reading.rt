@@ -22,7 +22,7 @@ use crate::disk::items::{records_in, words_in};
 use crate::disk::slots::has_own_slots;
 use crate::disk::tier::items_of;
 use checkpoint_body::{Body, Extent, RecordPage, RecordPageList, SlotPage, SlotPageList};
-use extent_file::{Extent as OpenExtent, ExtentFault, MOST_ITEMS};
+use extent_file::{Extent as OpenExtent, MOST_ITEMS};
 use fixed_num::ListOf;
 use host_model::{File, Host};
 use page_buffer::{RecordPage as PageOfRecords, SlotPage as PageOfSlots};
@@ -57,12 +57,7 @@ pub(crate) fn open_extent<H: Host>(
         (IsErrOf result FilesFault.DiskFault) }
     ensures output { (H.seen host.new).tell_faults ≡ (H.seen host.old).tell_faults }
 {
-    match OpenExtent::open(alloc, host, file, items, extent.slot, extent.size) {
-        Ok(open) => Ok(open),
-        Err(ExtentFault::DiskFault) => Err(FilesFault::DiskFault),
-        Err(ExtentFault::BadExtent(_)) => Err(FilesFault::Damaged(EXTENT_PART)),
-        Err(ExtentFault::Memory) => Err(FilesFault::Memory),
-    }
+    Ok(OpenExtent::open(alloc, host, file, items, extent.slot, extent.size)?)
 }
 
 /// A raw page of the pool, which takes memory where it has none.
@@ -103,12 +98,7 @@ fn read_items<H: Host>(
     ensures output { (H.seen host.new).tell_faults ≡ (H.seen host.old).tell_faults }
 {
     let page = raw_page(pool)?;
-    match extent.read_page(host, index, page) {
-        Ok(items) => Ok(items),
-        Err(ExtentFault::DiskFault) => Err(FilesFault::DiskFault),
-        Err(ExtentFault::BadExtent(_)) => Err(FilesFault::Damaged(EXTENT_PART)),
-        Err(ExtentFault::Memory) => Err(FilesFault::Memory),
-    }
+    Ok(extent.read_page(host, index, page)?)
 }
 
 /// The page of points that an entry of the directory of an extent names.
