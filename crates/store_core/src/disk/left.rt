@@ -18,7 +18,7 @@ ghost use Rattle.store_core.specs.disk.Reading.{HasSlot, IsExtentFault, IsPageFa
 
 use crate::disk::fault::{EXTENT_PART, FilesFault};
 use crate::disk::files::Files;
-use crate::disk::opening::{Checkpoint, load_checkpoint, open_journal, settle_tiers};
+use crate::disk::opening::{Loaded, load_checkpoint, open_journal, settle_tiers};
 use crate::disk::reading::{Kept, open_extent, read_record_page, read_slot_page};
 use crate::disk::slots::has_own_slots;
 use crate::disk::tier::items_of;
@@ -289,13 +289,6 @@ fn read_left<H: Host>(alloc: Global, host: &mut H, body: &Body) -> Result<Kept, 
         minutes,
         hours,
     })
-}
-
-/// What was read of a checkpoint, and what is left in the extents that it names.
-#[derive(Drop)]
-struct Loaded {
-    checkpoint: Checkpoint,
-    kept: Kept,
 }
 
 /// Loads the checkpoint that counts, and reads what is left in the extents that it names.

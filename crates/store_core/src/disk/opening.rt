@@ -149,9 +149,9 @@ pub(crate) fn open_journal<H: Host>(
 
 /// What was read of a checkpoint and of the extents that it names.
 #[derive(Drop)]
-struct Loaded {
-    checkpoint: Checkpoint,
-    kept: Kept,
+pub(crate) struct Loaded {
+    pub(crate) checkpoint: Checkpoint,
+    pub(crate) kept: Kept,
 }
 
 /// Loads the checkpoint that counts, and reads the extents that it names.

@@ -8,21 +8,13 @@ ghost use Rattle.store_core.specs.disk.Holds.{page_of_records, page_of_slots};
 ghost use Rattle.store_core.specs.disk.Next.{IsFormed};
 
 use crate::disk::fault::FilesFault;
+use crate::disk::reading::raw_page;
 use checkpoint_body as body;
 use extent_file::{Page, PageList};
 use fixed_num::Record;
 use page_buffer::{RecordPage, SlotPage};
-use page_pool::{PagePool, RawPage};
+use page_pool::PagePool;
 use std::alloc::Global;
-
-/// An empty raw page.
-fn raw_page(alloc: Global) -> Result<RawPage, FilesFault>
-    ensures memory { IsOkUnless result FilesFault.Memory }
-{
-    let mut pool = PagePool::new(alloc);
-    pool.reserve(1)?;
-    Ok(pool.take().unwrap())
-}
 
 /// Puts the words of slots into a page that has none. An empty slot is left by the point behind it.
 fn put_words(page: &mut SlotPage, first: u32, step: u32, words: &[u32])
@@ -54,7 +46,8 @@ fn slot_page(alloc: Global, page: &body::SlotPage) -> Result<Page, FilesFault>
     ensures page { IfOk result (λ made. made ≡ page_of_slots page.now) }
     ensures memory { IsOkUnless result FilesFault.Memory }
 {
-    let raw = raw_page(alloc)?;
+    let mut pool = PagePool::new(alloc);
+    let raw = raw_page(&mut pool)?;
     let mut made = SlotPage::new(raw, page.series, page.first, page.step);
     put_words(&mut made, page.first, page.step, page.words.as_slice());
     Ok(Page::Slots(made))
@@ -65,7 +58,8 @@ fn record_page(alloc: Global, page: &body::RecordPage) -> Result<Page, FilesFaul
     ensures page { IfOk result (λ made. made ≡ page_of_records page.now) }
     ensures memory { IsOkUnless result FilesFault.Memory }
 {
-    let raw = raw_page(alloc)?;
+    let mut pool = PagePool::new(alloc);
+    let raw = raw_page(&mut pool)?;
     let mut made = RecordPage::new(raw, page.series, page.first, page.step);
     put_records(&mut made, page.first, page.step, page.records.as_slice());
     Ok(Page::Records(made))

@@ -61,7 +61,7 @@ pub(crate) fn open_extent<H: Host>(
 }
 
 /// A raw page of the pool, which takes memory where it has none.
-fn raw_page(pool: &mut PagePool) -> Result<RawPage, FilesFault>
+pub(crate) fn raw_page(pool: &mut PagePool) -> Result<RawPage, FilesFault>
     ensures { IfErr result (λ fault. fault ≡ FilesFault.Memory) }
 {
     pool.reserve(1)?;
