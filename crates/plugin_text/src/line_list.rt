@@ -1,5 +1,5 @@
 //! Lines of a text, kept in one buffer.
-ghost use Rattle.std.specs.Prelude.{◌≡◌, ◌==◌, ◌+◌, ◌<◌, ◌≤◌, ℕ, List, [], ◌∷◌, ◌++◌, length, drop, slice_index_or, IsErrOf, IfOk, IfErr, OnOk, OnErr, MatchOption};
+ghost use Rattle.std.specs.Prelude.{◌≡◌, ◌+◌, ◌<◌, ◌≤◌, ℕ, List, [], ◌∷◌, ◌++◌, length, drop, slice_index_or, IsErrOf, IfOk, IfErr, OnOk, OnErr, MatchOption};
 ghost use Rattle.std.specs.List.{AllPass};
 ghost use Rattle.plugin_text.specs.Fault.{EndsSplitting};
 ghost use Rattle.plugin_text.specs.LineList.{line_at, lines_at, AreWithin};
@@ -124,13 +124,6 @@ impl LineList {
         ensures { result ≡ length self.now }
     {
         self.places.len()
-    }
-
-    /// Whether there is no line.
-    pub fn is_empty(&self) -> bool
-        ensures { result ≡ (length self.now == 0) }
-    {
-        self.places.is_empty()
     }
 
     /// The line at a place, counted from 0.
