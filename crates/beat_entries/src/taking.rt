@@ -73,10 +73,8 @@ fn number_content<'a>(
     if let Some(why) = content_refusal(&coming, moment, &found) {
         return Err(BeatFault::Refused(why));
     }
-    match number(alloc, &coming, moment, beat, found.rows) {
-        Ok(numbered) => Ok(numbered),
-        Err(_) => Err(BeatFault::Memory),
-    }
+    let numbered = number(alloc, &coming, moment, beat, found.rows)?;
+    Ok(numbered)
 }
 
 /// What a history with this registry makes of a beat that was collected at `moment`: its refusal, or the beat by the
