@@ -80,10 +80,10 @@ impl Feed {
     {
         match self.refusal(registry, last, copies, &line) {
             Some(fault) => Err(fault),
-            None => match self.take(registry, line) {
-                Ok(step) => Ok(step),
-                Err(_) => Err(BlockFault::Memory),
-            },
+            None => {
+                let step = self.take(registry, line)?;
+                Ok(step)
+            }
         }
     }
 
@@ -112,10 +112,10 @@ impl Feed {
     {
         match self.refusal(registry, last, copies, line) {
             Some(fault) => Err(fault),
-            None => match self.take_copy(registry, line) {
-                Ok(step) => Ok(step),
-                Err(_) => Err(BlockFault::Memory),
-            },
+            None => {
+                let step = self.take_copy(registry, line)?;
+                Ok(step)
+            }
         }
     }
 

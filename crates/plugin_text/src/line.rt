@@ -57,9 +57,7 @@ fn read_known(alloc: Global, keyword: Keyword, line: &mut Words) -> Result<Line,
     ensures fault { IfErr result (IsFaultFor (known_line line.old keyword)) }
 {
     let rest = line.rest();
-    let Ok(fields) = read_fields(line) else {
-        return Err(LineFault::OpenQuote);
-    };
+    let fields = read_fields(line)?;
     read_said(alloc, keyword, &fields, rest)
 }
 
@@ -81,9 +79,9 @@ fn read_said(
         Keyword::Flush => Ok(Line::Flush),
         Keyword::Disable => Ok(Line::Disable),
         Keyword::Moment => read_moment(fields),
-        Keyword::Query => match Text::from_str(alloc, rest) {
-            Ok(text) => Ok(Line::Query(text)),
-            Err(_) => Err(LineFault::Memory),
-        },
+        Keyword::Query => {
+            let text = Text::from_str(alloc, rest)?;
+            Ok(Line::Query(text))
+        }
     }
 }

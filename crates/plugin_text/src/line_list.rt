@@ -77,7 +77,8 @@ fn add_place(places: &mut Vec<Place>, place: Place) -> Result<(), LineFault>
     if place.end - place.start > LINE_LIMIT {
         return Err(LineFault::LineTooLong);
     }
-    places.push(place).map_err(|_| LineFault::Memory)
+    places.push(place)?;
+    Ok(())
 }
 
 /// Adds the places of the lines from `start` on, and gives where their rest begins.
@@ -166,9 +167,7 @@ impl LineList {
             × BeginsWithLines text.now handed }
     {
         let start = self.bytes.len();
-        let Ok(()) = self.bytes.extend_from_slice(text) else {
-            return Err(LineFault::Memory);
-        };
+        self.bytes.extend_from_slice(text)?;
         let end = add_places(&mut self.places, &self.bytes, start)?;
         Ok(&text[end - start..])
     }

@@ -69,10 +69,8 @@ fn take_beat(
     ensures there { IfOk result (IsThere registry.new) }
 {
     let numbered = judge_beat(alloc, registry, false, last, moment, beat)?;
-    match define_beat(registry, &numbered) {
-        Ok(()) => Ok(numbered),
-        Err(_) => Err(BeatFault::Memory),
-    }
+    define_beat(registry, &numbered)?;
+    Ok(numbered)
 }
 
 impl Reader {
