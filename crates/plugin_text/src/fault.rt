@@ -1,8 +1,9 @@
 ghost use Rattle.std.specs.Prelude.{◌≡◌};
 ghost use Rattle.plugin_text.specs.Fault.{fault_number};
-ghost use Rattle.plugin_text.specs.declared.fault.LineFault.TheVariants.{Memory, OpenQuote};
+ghost use Rattle.plugin_text.specs.declared.fault.LineFault.TheVariants.{Memory, NotText, OpenQuote};
 
 use std::alloc::{AllocError, AllocFailed};
+use std::str::Utf8Error;
 use thiserror::Error;
 use words::OpenQuote;
 
@@ -65,6 +66,14 @@ impl<T: Drop> From<AllocFailed<T>> for LineFault {
 
     fn from(_error: AllocFailed<T>) -> LineFault {
         LineFault::Memory
+    }
+}
+
+impl From<Utf8Error> for LineFault {
+    ghost from_gives = { λ _ fault. fault ≡ NotText };
+
+    fn from(_error: Utf8Error) -> LineFault {
+        LineFault::NotText
     }
 }
 

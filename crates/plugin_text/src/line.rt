@@ -25,10 +25,8 @@ pub fn read_line(alloc: Global, bytes: &[u8]) -> Result<Line, LineFault>
     ensures line { IfOk result (λ said. line bytes.now ≡ Ok said) }
     ensures fault { IfErr result (IsFaultFor (line bytes.now)) }
 {
-    match str::from_utf8(bytes) {
-        Ok(text) => read_text(alloc, text),
-        Err(_) => Err(LineFault::NotText),
-    }
+    let text = str::from_utf8(bytes)?;
+    read_text(alloc, text)
 }
 
 fn read_text(alloc: Global, line: &str) -> Result<Line, LineFault>
