@@ -1,12 +1,9 @@
-use Rattle.std.proofs.Common.{◌+◌, length, sym, ap, arith, ◌≤◌, subst}
+use Rattle.std.proofs.Common.{◌+◌, length, sym, arith, ◌≤◌, subst}
 use Rattle.host_model.specs.Images.{greatest}
 use Rattle.host_model.specs.Past.{of}
-use Rattle.std.proofs.lemmas.Result.{err_from_is_err_and}
 use Rattle.host_model.proofs.MomentLemmas.{at_end, joined}
 use Rattle.checkpoint.specs.Files.{slot_file}
 use Rattle.host_model.specs.declared.file.File.{File}
-use Rattle.store_core.specs.disk.Faults.{fault_of_check, fault_of_journal}
-use Rattle.store_core.proofs.DiskProofs.FaultLemmas.{cause_after, check_cause, journal_cause}
 use Rattle.store_core.proofs.DiskProofs.ShareLemmas.{within_on}
 use Rattle.store_core.proofs.DiskProofs.BeginLemmas.{begun_disks, checkpoint_stays, journal_empty, not_yet, only_check, only_journal, switches}
 use Rattle.store_core.proofs.disk.beginning.begin.Goals as goal
@@ -94,23 +91,3 @@ returns-clause-bound g c shares room h before =
     joined first
     (within_on shares (slot_file number) middle new (c.switch.ensures.only_here h) there
     (c.switch.ensures.bound (shares (slot_file number)) (omega (arith, room.checkpoint)) h (there (slot_file number))))
-
-pub returns-in_err-prepare-clause-faults : goal.returns-in_err-prepare-clause-faults
-returns-in_err-prepare-clause-faults g c =
-    let p = err_from_is_err_and c.from_residual.result c.from_residual.ensures.1 in
-    rw (p.1, p.2) (ap fault_of_journal c.in_err-prepare.ensures.faults)
-
-pub returns-in_err-prepare-clause-cause : goal.returns-in_err-prepare-clause-cause
-returns-in_err-prepare-clause-cause g c =
-    let p = err_from_is_err_and c.from_residual.result c.from_residual.ensures.1 in
-    rw (p.1, p.2) (journal_cause _ _ c.in_err-prepare.field-0.0 c.in_err-prepare.ensures.cause)
-
-pub returns-in_err-switch-clause-faults : goal.returns-in_err-switch-clause-faults
-returns-in_err-switch-clause-faults g c =
-    let p = err_from_is_err_and c.from_residual-in_err-switch.result c.from_residual-in_err-switch.ensures.1 in
-    rw (p.1, p.2) (ap fault_of_check c.in_err-switch.ensures.faults)
-
-pub returns-in_err-switch-clause-cause : goal.returns-in_err-switch-clause-cause
-returns-in_err-switch-clause-cause g c =
-    let p = err_from_is_err_and c.from_residual-in_err-switch.result c.from_residual-in_err-switch.ensures.1 in
-    rw (p.1, p.2) (cause_after _ _ _ (c.in_ok-prepare.ensures.cause.stays (λ failed. cc)) (check_cause _ _ c.in_err-switch.field-0.0 c.in_err-switch.ensures.cause))

@@ -1,5 +1,4 @@
 use Rattle.std.proofs.Common.{◌≡◌, ◌+◌, ◌≤◌, List, [], sym, ap, ◌∙◌, subst, arith}
-use Rattle.std.proofs.lemmas.Result.{err_from_is_err_and}
 use Rattle.host_model.specs.Moments.{begins}
 use Rattle.journal_core.specs.Form.{record_size}
 use Rattle.beat_tiers.specs.declared.item.BeatPoint.{BeatPoint}
@@ -12,7 +11,6 @@ use Rattle.store_core.specs.disk.Shares.{share}
 use Rattle.store_core.specs.Counts.{raised}
 use Rattle.store_core.specs.Store.{IsReady, IsStoreOf, StoreState}
 use Rattle.store_core.specs.Stored.{stored_with}
-use Rattle.store_core.proofs.AdvanceLemmas.{cause-of-files}
 use Rattle.store_core.proofs.FollowLemmas.{added_is, append_moments, files_ready, fits_share, may_follow, nothing_done, one_more, ready_more, unsealed}
 use Rattle.store_core.proofs.store.Store.add.Goals as goal
 
@@ -127,12 +125,7 @@ returns-clause-ready g c =
     (c.as_slice.ensures ∙ c.in_ok-body.ensures) c.requires.going number c.in_ok-append.ensures.ready
     (λ h contents opened. c.in_ok-append.ensures.stored h contents (subst (λ (f : FilesState). IsOpenOf old f contents) (sym same) opened)))
 
--- what was added takes the memory that was reserved, and the disk failed where it did for the files
+-- what was added takes the memory that was reserved
 
 pub take-requires : goal.take-requires
 take-requires g c = c.in_ok-reserve.ensures.room
-
-pub returns-in_err-append-clause-cause : goal.returns-in_err-append-clause-cause
-returns-in_err-append-clause-cause g c =
-    let p = err_from_is_err_and c.from_residual-in_err-append.result c.from_residual-in_err-append.ensures.1 in
-    rw p.1 (cause-of-files _ _ c.in_err-append.field-0.0 p.0 p.2 c.in_err-append.ensures.cause)
