@@ -19,9 +19,7 @@ use crate::beats::{Beat, is_later, write_beat};
 use crate::fault::StoreFault;
 use crate::store::Store;
 use host_model::Host;
-
-/// The most bytes of a journal to which a record may be added.
-const MOST: u64 = 1 << 60;
+use journal_core::JOURNAL_LIMIT;
 
 impl Store {
     /// Adds a beat. At `Ok` it is stored, so that it is there after every later crash; at every
@@ -29,8 +27,8 @@ impl Store {
     ///
     /// `MomentOrder` with the last moment exactly where the moment is at most that, and then nothing
     /// has changed. After `DiskFault` or `Memory` the database must be opened again. `Memory` comes
-    /// before anything is written. Where there can be no later checkpoint, the answer past 2^60
-    /// bytes of the journal is `Memory`.
+    /// before anything is written. Where there can be no later checkpoint, the answer past
+    /// `JOURNAL_LIMIT` bytes of the journal is `Memory`.
     pub fn commit<H: Host>(&mut self, host: &mut H, beat: &Beat) -> Result<(), StoreFault>
         requires ready { IsReady H.honest (H.seen host.old).past self.old }
         requires replayed { IsReplayed self.old }
@@ -135,7 +133,7 @@ impl Store {
         let body = write_beat(self.alloc, beat)?;
         let points = beat.points.as_slice();
         self.tiers.reserve(beat.moment, points)?;
-        if self.files.journal_bytes() > MOST {
+        if self.files.journal_bytes() > JOURNAL_LIMIT {
             return Err(StoreFault::Memory);
         }
         self.files.append(host, body.as_slice())?;

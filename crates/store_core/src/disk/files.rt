@@ -4,7 +4,7 @@ ghost use Rattle.host_model.specs.Disks.{EveryDisk};
 ghost use Rattle.host_model.specs.Cause.{HasCause};
 ghost use Rattle.host_model.specs.Moments.{Throughout, OnlyOn};
 ghost use Rattle.journal_core.specs.Form.{record_size};
-ghost use Rattle.journal_core.specs.declared.journal.TheConstants.{RECORD_LIMIT};
+ghost use Rattle.journal_core.specs.declared.journal.TheConstants.{JOURNAL_LIMIT, RECORD_LIMIT};
 ghost use Rattle.checkpoint_body.specs.Body.{body_bytes, HasSpelling};
 ghost use Rattle.store_core.specs.disk.Beginning.{empty_journal};
 ghost use Rattle.store_core.specs.disk.Contents.{next_contents, with_record, Contents, KeptPages};
@@ -54,7 +54,7 @@ impl Files {
     /// leaves the contents with the record or without it, as at every moment of the call, and the
     /// database must be opened again.
     pub fn append<H: Host>(&mut self, host: &mut H, bytes: &[u8]) -> Result<(), FilesFault>
-        requires room { self.old.journal.bytes ≤ 2 ^ 60 }
+        requires room { self.old.journal.bytes ≤ JOURNAL_LIMIT }
         requires short { length bytes.now ≤ RECORD_LIMIT }
         requires ready { IsReady H.honest (H.seen host.old).past self.old }
         ensures any_moment { H.honest → (contents : Contents)

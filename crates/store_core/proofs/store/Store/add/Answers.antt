@@ -38,13 +38,13 @@ returns-in_err-reserve-clause-any_moment g c h stored is_of =
 pub returns-in_err-reserve-clause-bound : goal.returns-in_err-reserve-clause-bound
 returns-in_err-reserve-clause-bound g c side numbered h within = begins within
 
-pub returns-then-journal_bytes-gt-MOST-clause-any_moment :
-    goal.returns-then-journal_bytes-gt-MOST-clause-any_moment
-returns-then-journal_bytes-gt-MOST-clause-any_moment g c h stored is_of =
+pub returns-then-journal_bytes-gt-JOURNAL_LIMIT-clause-any_moment :
+    goal.returns-then-journal_bytes-gt-JOURNAL_LIMIT-clause-any_moment
+returns-then-journal_bytes-gt-JOURNAL_LIMIT-clause-any_moment g c h stored is_of =
     begins (nothing_done (g.H.Host.seen c.args.host.now).past c.args.self.now stored c.args.beat.now is_of)
 
-pub returns-then-journal_bytes-gt-MOST-clause-bound : goal.returns-then-journal_bytes-gt-MOST-clause-bound
-returns-then-journal_bytes-gt-MOST-clause-bound g c side numbered h within = begins within
+pub returns-then-journal_bytes-gt-JOURNAL_LIMIT-clause-bound : goal.returns-then-journal_bytes-gt-JOURNAL_LIMIT-clause-bound
+returns-then-journal_bytes-gt-JOURNAL_LIMIT-clause-bound g c side numbered h within = begins within
 
 -- and where the record was
 
