@@ -28,7 +28,8 @@ pub(crate) fn read_directory(
     ensures whole { IfOk result (λ entries. (bytes : List ℕ) (window : ℕ) (form : Form)
         → seen.now ≡ take window bytes → HEAD_SIZE + ENTRY_SIZE * pages ≤ window
         → Leads form bytes HEAD_SIZE (directory_form tier size pages (at_first pages) [])
-        → Leads form bytes (HEAD_SIZE + ENTRY_SIZE * pages) (Rest (size - (HEAD_SIZE + ENTRY_SIZE * pages)) entries)) }
+        → Leads form bytes (HEAD_SIZE + ENTRY_SIZE * pages)
+        (Rest (size - (HEAD_SIZE + ENTRY_SIZE * pages)) entries)) }
     ensures bad { (place : ℕ) → IsErrOf result (ExtentFault.BadExtent place)
         → (bytes : List ℕ) (window : ℕ) (form : Form)
         → seen.now ≡ take window bytes → HEAD_SIZE + ENTRY_SIZE * pages ≤ window

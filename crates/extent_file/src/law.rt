@@ -24,6 +24,7 @@ pub fn bytes_say_one_extent()
     ensures items { (tier slot : ℕ) (pages : List APage) (bytes : List ℕ) (index : ℕ)
         (page : APage) (entry : AnEntry) → IsExtentOf tier slot pages bytes
         → slice_get pages index ≡ Some page
-        → slice_get (entries_of tier (HEAD_SIZE + ENTRY_SIZE * length pages) pages) index ≡ Some entry
+        → slice_get (entries_of tier (HEAD_SIZE + ENTRY_SIZE * length pages) pages) index
+        ≡ Some entry
         → IsItemsOf page (take (bytes_of tier entry) (drop entry.place bytes)) }
 {}
