@@ -15,9 +15,9 @@ use std::alloc::{AllocError, Global};
 /// A program that is to be run as a collector.
 #[derive(Drop)]
 pub struct Collector {
-    /// How many seconds lie between its beats, 1 to 86,400.
+    /// How many seconds lie between its beats, 1 to `UPDATE_EVERY_LIMIT`.
     pub every: u32,
-    /// How often it is started at most, 1 to 1,000.
+    /// How often it is started at most, 1 to `STARTS_LIMIT`.
     pub starts: u32,
     /// The program and its arguments.
     pub words: WordsList,
