@@ -72,8 +72,8 @@ pub use law::crashes_leave_what_was_stored;
 /// many lines were skipped, if any were. A text that is refused tells `REFUSED`, the number of the
 /// line and the number of the refusal, after the points of the beats before. Where a moment is not
 /// above the last one, that is told behind the two numbers. A text that asks for too many charts or
-/// dimensions tells `LIMIT` so. No more than 2^40 bytes are taken of the input. Any command may
-/// run out of memory at any place, and ends with `Status::Memory` then.
+/// dimensions tells `LIMIT` so. No more than `line_stream::INPUT_LIMIT` bytes, 2^40, are taken of the
+/// input. Any command may run out of memory at any place, and ends with `Status::Memory` then.
 ///
 /// `new ID`, or `new ID P0 Q0 P1 Q1 P2 Q2`, makes a database on the host's disk: its id below 2^64,
 /// and for each tier how many items make a segment full and how many segments are kept. `Exists`
@@ -106,7 +106,7 @@ pub use law::crashes_leave_what_was_stored;
 /// at the other end of the link sends behind the history of the database, which is a copy of that child's. As soon
 /// as a part of it is stored it tells `STORED` and the number of its last beat in the history, and then a line for
 /// each event that its beats make. After that the child is answered. What the database does not take is told as
-/// `REFUSED 0` or `LIMIT 0` and the number of the refusal. No more than 2^40 bytes are taken of the link.
+/// `REFUSED 0` or `LIMIT 0` and the number of the refusal. No more than as many bytes are taken of the link.
 /// `LinkFault` where a call on the link fails, `PeerRefused` where one end refuses the other, and `LinkEnded` where
 /// the other end sends no more before it was done. Where nothing outside fails, the frames in all the bytes of the
 /// link and what stands behind them give the status, or it is `Memory`. The link knows the address.
