@@ -8,8 +8,8 @@
 //! database stays within its share at every moment.
 //!
 //! It stands on `line_stream` for the lines of a stream, on `plugin_runner` for those of a program that is run as a
-//! collector, on `point_lines` for what the lines of a text tell, on `link_session` for what two agents say to each
-//! other, on `agent_core` for the agent whose beats are stored, and on `host_model` for the outside.
+//! collector, and on `point_lines` for what the lines of a text tell. `link_session` is what two agents say to each
+//! other, `agent_core` the agent whose beats are stored, and `host_model` the outside.
 #![tactic(auto)]
 
 ghost use Rattle.std.specs.Prelude.{◌≡◌, ◌⊎◌, ℕ, None, Some};
@@ -83,8 +83,8 @@ pub use law::crashes_leave_what_was_stored;
 /// `STORED` and the beat's number in the history, and then a line for each event of an alarm that the beat
 /// makes: no crash loses the beat then. A refusal is told as by `convert`, and the beats before it stay. A
 /// QUERY line is answered at its place, over the history there: with `ROWS`, how many windows there are and
-/// the ids of the dimensions, and then a line for each window, its start and its values; or with `ERROR` and
-/// a number, which ends nothing.
+/// the ids of the dimensions, and then a line for each window, its start and its values. Or it is answered
+/// with `ERROR` and a number, which ends nothing.
 ///
 /// `collect EVERY STARTS PROGRAM [ARG..]` starts a program and stores the beats of what it writes, as `run` does with
 /// its input. EVERY is how many seconds lie between beats, 1 to 86,400: the program is handed it before its own
