@@ -8,7 +8,8 @@ use Rattle.std.specs.List.{list_any}
 use Rattle.std.specs.Option.{option_map, option_and_then}
 use Rattle.std.specs.Str.{bytes_eq}
 use Rattle.agent_app.specs.Command.{addressed, alone, collect_of, command_of, form_of, is_option, is_question, longer, number_of, plan_of, up_to, IsCollector}
-use Rattle.agent_app.specs.declared.command.TheConstants.{EVERY_LIMIT, STARTS_LIMIT}
+use Rattle.history.specs.declared.limits.TheConstants.{UPDATE_EVERY_LIMIT}
+use Rattle.agent_app.specs.declared.command.TheConstants.{STARTS_LIMIT}
 use Rattle.agent_app.specs.declared.command.Command.{Command}
 use Rattle.agent_app.specs.declared.command.Command.TheVariants.{Collect, Convert, Health, Log, New, Query, Receive, Run, Send}
 
@@ -92,7 +93,7 @@ module _ (every starts : ℕ) where
   -- the words behind `collect`
   record Has (more : List (List ℕ)) : Type 0 where
     every_least : 1 ≤ every
-    every_most : every ≤ EVERY_LIMIT
+    every_most : every ≤ UPDATE_EVERY_LIMIT
     starts_least : 1 ≤ starts
     starts_most : starts ≤ STARTS_LIMIT
     program : 2 < length more
@@ -107,8 +108,8 @@ module _ (every starts : ℕ) where
   has (a ∷ []) is = absurd (none-some (Collect every starts) is)
   has (a ∷ b ∷ []) is = absurd (none-some (Collect every starts) is)
   has (a ∷ b ∷ c ∷ more) is =
-      let each = both (option_and_then (up_to EVERY_LIMIT) (number_of a)) (option_and_then (up_to STARTS_LIMIT) (number_of b)) is in
-      let e = limited EVERY_LIMIT (number_of a) every each.0 in
+      let each = both (option_and_then (up_to UPDATE_EVERY_LIMIT) (number_of a)) (option_and_then (up_to STARTS_LIMIT) (number_of b)) is in
+      let e = limited UPDATE_EVERY_LIMIT (number_of a) every each.0 in
       let s = limited STARTS_LIMIT (number_of b) starts each.1 in
       record { every_least = e.0; every_most = e.1; starts_least = s.0; starts_most = s.1; program = omega arith }
 

@@ -22,7 +22,8 @@ use Rattle.clap.specs.declared.error.kind.ErrorKind.TheVariants as kind
 use Rattle.agent_app.specs.Command.{addressed, collect_of, command_of, form_named, form_of, is_option, number_of, plan_of, plan_with, quota_of, up_to}
 use Rattle.agent_app.specs.Forms.{addressed_in, collect_in, command_in, form_in, forms, plan_in}
 use Rattle.tier_settings.specs.declared.limits.TheConstants.{MOST_ITEMS}
-use Rattle.agent_app.specs.declared.command.TheConstants.{EVERY_LIMIT, STARTS_LIMIT}
+use Rattle.history.specs.declared.limits.TheConstants.{UPDATE_EVERY_LIMIT}
+use Rattle.agent_app.specs.declared.command.TheConstants.{STARTS_LIMIT}
 use Rattle.agent_app.specs.declared.command.Command.{Command}
 use Rattle.agent_app.specs.declared.command.Command.TheVariants.{Collect, New, Query, Receive, Send}
 use Rattle.agent_app.proofs.FormLemmas.{or_false, leaf_fault, leaf_missing, leaf_rows, alone_fault, stray_word, collect_fault, convert_fault, health_fault, log_fault, new_fault, query_fault, receive_fault, run_fault, send_fault, collect_rows, convert_rows, health_rows, log_rows, new_rows, query_rows, receive_rows, run_rows, send_rows, unknown_fault, empty_fault}
@@ -88,7 +89,7 @@ plan-past (a ∷ b ∷ c ∷ d ∷ e ∷ f ∷ g ∷ []) past = absurd (omega ar
 plan-past (a ∷ b ∷ c ∷ d ∷ e ∷ f ∷ g ∷ h ∷ more) past = refl
 
 pub collect-read : {B : Type 0} (f : B → Text) (words : List B) (d : B) (every starts : ℕ) → 2 < length words
-    → option_and_then (up_to EVERY_LIMIT) (number_of (f (slice_index_or words 0 d))) ≡ Some every
+    → option_and_then (up_to UPDATE_EVERY_LIMIT) (number_of (f (slice_index_or words 0 d))) ≡ Some every
     → option_and_then (up_to STARTS_LIMIT) (number_of (f (slice_index_or words 1 d))) ≡ Some starts → Some (Collect every starts) ≡ collect_of (map f words)
 collect-read f [] d every starts three e s = absurd (omega (arith, three))
 collect-read f (a ∷ []) d every starts three e s = absurd (omega (arith, three))

@@ -25,8 +25,8 @@ StaysWithin shares old new = IsWithin shares old → Throughout (IsWithin shares
 abbrev pub IsNumbered : (File → List ℕ) → Type 0
 IsNumbered disk = (stored : Stored) → Stands stored disk → is_numbered stored.base.number ≡ true
 
--- by these settings, where a side has at most so many bytes: as long as on a disk that a crash may leave at the end there can
--- be a later checkpoint
+-- by these settings, where a side has at most so many bytes: as long as on a disk that a crash may leave at the end
+-- there can be a later checkpoint
 abbrev pub EndsWithin : Settings → (limit : ℕ) → (old new : List Event) → Type 0
 EndsWithin set limit old new = (disk : File → List ℕ) → IsDisk new disk → IsNumbered disk → StaysWithin (share set limit) old new
 
@@ -42,8 +42,8 @@ AgentGrows agent old new = (set : Settings) (h : List Beat) → IsAgentOf old ag
 abbrev pub StaysUnopened : (old new : List Event) → Type 0
 StaysUnopened old new = (NotesGo true (reads_as old) → ⊥) → (shares : File → ℕ) → StaysWithin shares old new
 
--- What the command of a command line's words lets the files do, or no command. Those that ask and send write nothing, and no
--- file grows.
+-- What the command of a command line's words lets the files do, or no command. Those that ask and send write nothing,
+-- and no file grows.
 abbrev pub StaysBy : Option Command → (old new : List Event) → Type 0
 StaysBy (Some Run) old new = GrowsBy old new × StaysUnopened old new
 StaysBy (Some (Collect every starts)) old new = GrowsBy old new × StaysUnopened old new

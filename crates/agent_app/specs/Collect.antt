@@ -108,7 +108,7 @@ answer_status None ending = SpawnFault
 answer_status (Some (Ok end)) ending = ending_status ending
 answer_status (Some (Err why)) ending = Disabled
 
--- the status of a text whose lines are read so: that of a line that is refused, or of a DISABLE, or else that of its end
+-- the status of a text whose lines are read so: that of a line that is refused, or of a DISABLE, else that of its end
 abbrev pub lines_status : Ending Refusal → Status → Status
 lines_status (RefusedAt line why) at_end = refusal_status line why
 lines_status Ends at_end = Disabled
@@ -142,7 +142,7 @@ pub record Collects (status : Status) (asked : Collector) (set : Settings) (h0 :
   pub stores : Stores status asked.every set h0 ended taken old new
   pub cause : HasCollectCause status heard.answer ended (run_reading asked.every set h0 ended taken).ending taken (Rose outside.spawn_faults outside'.spawn_faults) tell_rose disk_rose
 
--- from some moment on all that a crash might leave of the disk was a database of this history, and the run was one on it
+-- from some moment on all that a crash might leave of the disk was a database of this history, and the run was on it
 pub record CollectsOn (status : Status) (asked : Collector) (set : Settings) (h0 : List Beat) (outside outside' : Outside) (read new : List Event) (tell_rose disk_rose : Type 0) : Type 0 where
   pub stands : EveryDisk (StandsForHistory set h0) read
   pub collects : Collects status asked set h0 outside outside' read new tell_rose disk_rose

@@ -11,7 +11,8 @@ use Rattle.tier_settings.specs.Limits.{is_tier}
 use Rattle.tier_settings.specs.Settings.{settings_of, tier_of}
 use Rattle.agent_app.specs.declared.command.Command.{Command}
 use Rattle.agent_app.specs.declared.command.Command.TheVariants.{Collect, Convert, Health, Log, New, Query, Receive, Run, Send}
-use Rattle.agent_app.specs.declared.command.TheConstants.{EVERY_LIMIT, STARTS_LIMIT}
+use Rattle.history.specs.declared.limits.TheConstants.{UPDATE_EVERY_LIMIT}
+use Rattle.agent_app.specs.declared.command.TheConstants.{STARTS_LIMIT}
 use Rattle.agent_app.specs.declared.command.Form.{Form}
 use Rattle.agent_app.specs.declared.command.Form.TheVariants as form
 use Rattle.agent_app.specs.declared.command.Plan.{Plan}
@@ -71,13 +72,13 @@ plan_of words = None
 abbrev pub collect_of : List (List ℕ) → Option Command
 collect_of (every ∷ starts ∷ program ∷ arguments) =
     option_and_then (λ (e : ℕ). option_map (λ (s : ℕ). Collect e s) (option_and_then (up_to STARTS_LIMIT) (number_of starts)))
-    (option_and_then (up_to EVERY_LIMIT) (number_of every))
+    (option_and_then (up_to UPDATE_EVERY_LIMIT) (number_of every))
 collect_of words = None
 
 -- what a command line that gives `collect` has
 pub record IsCollector (every starts : ℕ) (words : List (List ℕ)) : Type 0 where
   pub every_least : 1 ≤ every
-  pub every_most : every ≤ EVERY_LIMIT
+  pub every_most : every ≤ UPDATE_EVERY_LIMIT
   pub starts_least : 1 ≤ starts
   pub starts_most : starts ≤ STARTS_LIMIT
   -- the program stands behind the first three words

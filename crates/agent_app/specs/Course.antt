@@ -26,16 +26,17 @@ use Rattle.agent_app.specs.Run.{history_with_text, is_opened, is_whole, run_ever
 use Rattle.agent_app.specs.Send.{SendsAll}
 
 -- What a command has what it stores from: a source, with what it had left before and after, where it tells that; a
--- collector, with what it met before and after; a source that has a configuration of alarms; or a link, before and after.
+-- collector, with what it met before and after; a source that has a configuration of alarms; or a link, before and
+-- after.
 pub data Input : Type 0 where
   OfSource : (left left_after : Option (List ℕ)) → Input
   OfCollector : (collector : Collector) (outside outside_after : Outside) → Input
   OfHealth : (left left_after : Option (List ℕ)) → Input
   OfLink : (link link_after : LinkSeen) → Input
 
--- In a database of these settings and this history, this is the history with all that was taken of the input: the beats of
--- the text that a run took; the configuration, where the text has ended and nothing refuses it; and the gaps and the copied
--- beats of each Data that a parent takes of the frames that came.
+-- In a database of these settings and this history, this is the history with all that was taken of the input: the beats
+-- of the text that a run took; the configuration, where the text has ended and nothing refuses it; and the gaps and the
+-- copied beats of each Data that a parent takes of the frames that came.
 abbrev pub Gives : Input → Settings → (base whole : List Beat) → Type 0
 Gives (OfSource left left_after) set base whole = (taken : List ℕ) × Takes left taken left_after × (whole ≡ history_with_text run_every base taken)
 Gives (OfCollector collector outside outside_after) set base whole = (taken : List ℕ) × HasHeard collector (last base) outside outside_after taken × (whole ≡ history_with_text collector.every base taken)
@@ -78,10 +79,11 @@ pub record HoldsOneOf (starts : List (Option Database)) (disk : File → List �
 abbrev pub MayHaveMade : Status → Seen → Type 0
 MayHaveMade status host = (status ≡ Done) ⊎ ((status ≡ DiskFault) × (is_made (reads_as host.past) ≡ false))
 
--- Of a host whose disk held one of these databases whatever a crash left, or none where that is among them, and on which
--- commands were made one after the other that store, `run`, `collect`, `health` or `receive`, with whatever input and whatever
--- end: these are they, the latest first. Between them texts may be converted, questions asked, copies sent to a parent and
--- `new` tried, whatever each ended with. `tried` has the settings of each `new` that may have made a database.
+-- Of a host whose disk held one of these databases whatever a crash left, or none where that is among them, and on
+-- which commands were made one after the other that store, `run`, `collect`, `health` or `receive`, with whatever input
+-- and whatever end: these are they, the latest first. Between them texts may be converted, questions asked, copies sent
+-- to a parent and `new` tried, whatever each ended with. `tried` has the settings of each `new` that may have made a
+-- database.
 pub data Course {H : Type 0} (honest : Type 0) (seen : H → Seen) (starts : List (Option Database)) (tried : List Settings) : List OneRun → H → Type 0 where
   begun : (host : H) → EveryDisk (HoldsOneOf starts) (seen host).past → Course honest seen starts tried [] host
   ran : (runs : List OneRun) (host host' : H) (status : Status) (left left' : Option (List ℕ)) (source_faults source_faults' : ℕ)
@@ -110,9 +112,9 @@ MayHaveFoundNone run = (status : Status) → run.status ≡ Some status → is_o
 abbrev pub WhereWhole : OneRun → Type 0 → Type 0
 WhereWhole run holds = (status : Status) → run.status ≡ Some status → is_whole status ≡ true → holds
 
--- From this start these runs stored this: each goes on from what the one before it left, by a prefix of what it took, and by
--- all of it where it ended so. Every beat that it acknowledged is there, and the settings stay. Before there is a database a
--- run tells nothing. One that is made has settings of a `new`, and no beats.
+-- From this start these runs stored this: each goes on from what the one before it left, by a prefix of what it took,
+-- and by all of it where it ended so. Every beat that it acknowledged is there, and the settings stay. Before there is
+-- a database a run tells nothing. One that is made has settings of a `new`, and no beats.
 pub data AreStored (tried : List Settings) (start : Option Database) : List OneRun → Option Database → Type 0 where
   no_run : AreStored tried start [] start
   none_found : (runs : List OneRun) (run : OneRun) → AreStored tried start runs None → MayHaveFoundNone run → run.text ≡ [] → AreStored tried start (run ∷ runs) None

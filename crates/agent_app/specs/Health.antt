@@ -97,7 +97,8 @@ HasHealthCause status ended taken source_rose tell_rose disk_rose = ⊥
 
 -- a text that was taken, and the database of this history, ended so
 pub record StopsAt (status : Status) (set : Settings) (h0 : List Beat) (ended : Bool) (taken : List ℕ) (old new : List Event) (source_rose tell_rose disk_rose : Type 0) : Type 0 where
-  -- at every moment a crash leaves the history, or the one with the configuration, and with it where that was acknowledged
+  -- at every moment a crash leaves the history, or the one with the configuration, and with it where that was
+  -- acknowledged
   pub crashes : Throughout (EveryCrash (Keeps set h0 (history_with_health h0 ended taken) (told old))) old new
   -- at the end the one with the configuration, unless the output, the disk or memory failed
   pub ends : is_whole status ≡ true → EveryDisk (StandsForHistory set (history_with_health h0 ended taken)) new
@@ -118,7 +119,7 @@ pub record Configures (status : Status) (set : Settings) (h0 : List Beat) (left 
   pub at_end : ended ≡ true → (length taken ≤ TEXT_LIMIT) × IfSome left' (λ bytes. bytes ≡ [])
   pub at : StopsAt status set h0 ended taken old new source_rose tell_rose disk_rose
 
--- from some moment on all that a crash might leave of the disk was a database of this history, and `health` was one on it
+-- from some moment on all that a crash might leave of the disk was a database of this history, and `health` was on it
 pub record ConfiguresFrom (status : Status) (set : Settings) (h0 : List Beat) (left left' : Option (List ℕ)) (read new : List Event) (source_rose tell_rose disk_rose : Type 0) : Type 0 where
   pub stands : EveryDisk (StandsForHistory set h0) read
   pub configures : Configures status set h0 left left' read new source_rose tell_rose disk_rose

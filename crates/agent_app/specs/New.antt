@@ -29,8 +29,8 @@ pub record Makes (honest : Type 0) (set : Settings) (status : Status) (host host
   -- where memory ran out nothing is written: at every moment a crash leaves what it might have left before the call
   pub memory : status ≡ Memory → honest → ReadsAsBefore host.past host'.past
   pub memory_moment : status ≡ Memory → honest → Throughout (EveryDisk (IsDisk host.past)) host.past host'.past
-  -- exactly where there is a database it is refused, or the disk failed, or memory ran out, and nothing is written: at every
-  -- moment a crash leaves what it might have left before the call
+  -- exactly where there is a database it is refused, or the disk failed, or memory ran out, and nothing is written: at
+  -- every moment a crash leaves what it might have left before the call
   pub exists : status ≡ Exists → honest → is_made (reads_as host.past) ≡ true
   pub made : honest → is_made (reads_as host.past) ≡ true → ((status ≡ Exists) ⊎ (status ≡ DiskFault) ⊎ (status ≡ Memory)) × ReadsAsBefore host.past host'.past
   pub made_moment : honest → is_made (reads_as host.past) ≡ true → Throughout (EveryDisk (IsDisk host.past)) host.past host'.past

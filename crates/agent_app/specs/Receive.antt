@@ -77,8 +77,8 @@ HoldsCopy set floors child disk = (h : List Beat) × StandsForHistory set h disk
 pub record Receives (status : Status) (set : Settings) (h0 : List Beat) (link link' : LinkSeen) (old new : List Event) : Type 0 where
   pub result : SessionResult
   pub ends_as : EndsAs result status
-  -- It did what a parent does with the frames in the bytes that it took. A prefix of what that says was sent, and all of it
-  -- unless the output, the disk, the link or memory failed; and that is why it ended.
+  -- It did what a parent does with the frames in the bytes that it took. A prefix of what that says was sent, and all
+  -- of it unless the output, the disk, the link or memory failed; and that is why it ended.
   pub exchanges : Exchanges (parent_does set) (parent_begins h0) result link link'
   -- what was said answers frames of which all was stored and told: no Have stands for beats that are not on the disk
   pub heard : AnswersStored set h0 exchanges.frames exchanges.broken old new link.sent link'.sent
@@ -94,7 +94,8 @@ pub record Receives (status : Status) (set : Settings) (h0 : List Beat) (link li
   -- a history that was a copy of a child is one at every moment, where each Data that came is true of the child
   pub copy : (floors : List ℕ) (child : List SeenBeat) → RisesFrom seen_moment 0 child → IsCopyOfChild floors child h0 → AreTrueOf floors child exchanges.frames → Throughout (EveryDisk (HoldsCopy set floors child)) old new
 
--- from some moment on all that a crash might leave of the disk was a database of this history, and the session was one over it
+-- from some moment on all that a crash might leave of the disk was a database of this history, and the session was one
+-- over it
 pub record ReceivesOn (status : Status) (set : Settings) (h0 : List Beat) (link link' : LinkSeen) (read new : List Event) : Type 0 where
   pub stands : EveryDisk (StandsForHistory set h0) read
   pub receives : Receives status set h0 link link' read new

@@ -104,7 +104,8 @@ abbrev pub HasRunCause : Status → Bool → Ending Refusal → List ℕ → (so
 HasRunCause DiskFault ended ending taken source_rose tell_rose disk_rose = disk_rose
 HasRunCause status ended ending taken source_rose tell_rose disk_rose = HasStatusCause status ended ending taken source_rose tell_rose
 
--- a text of which this was taken, on a database of these settings and this history: what a crash leaves, and what was told
+-- a text of which this was taken, on a database of these settings and this history: what a crash leaves, and what was
+-- told
 pub record Stores (status : Status) (every : ℕ) (set : Settings) (h0 : List Beat) (ended : Bool) (taken : List ℕ) (old new : List Event) : Type 0 where
   -- at every moment a crash leaves the history with a prefix of the beats, and with every beat that was acknowledged
   pub crashes : Throughout (EveryCrash (Keeps set h0 (history_with_text every h0 taken) (told old))) old new
@@ -125,8 +126,8 @@ pub record Runs (status : Status) (every : ℕ) (set : Settings) (h0 : List Beat
   pub stores : Stores status every set h0 ended taken old new
   pub cause : HasRunCause status ended (run_reading every set h0 ended taken).ending taken source_rose tell_rose disk_rose
 
--- The disk failed at a MOMENT that may stand where it does: it is the last but `later` of the lines that are read, behind
--- these, and of all that is to be told next comes that its beat is stored. So much was told before.
+-- The disk failed at a MOMENT that may stand where it does: it is the last but `later` of the lines that are read,
+-- behind these, and of all that is to be told next comes that its beat is stored. So much was told before.
 pub record FailsAtMoment (every : ℕ) (set : Settings) (h0 : List Beat) (ended : Bool) (text sent : List ℕ) : Type 0 where
   pub past : List Line
   pub moment : ℕ
@@ -139,7 +140,7 @@ pub record FailsAtMoment (every : ℕ) (set : Settings) (h0 : List Beat) (ended 
 abbrev pub FailsAtBeat : Status → ℕ → Settings → List Beat → Bool → (text sent : List ℕ) → Type 0
 FailsAtBeat status every set h0 ended text sent = status ≡ DiskFault → FailsAtMoment every set h0 ended text sent
 
--- from some moment on all that a crash might leave of the disk was a database of this history, and the run was one on it
+-- from some moment on all that a crash might leave of the disk was a database of this history, and the run was on it
 pub record RunsOn (status : Status) (every : ℕ) (set : Settings) (h0 : List Beat) (left left' : Option (List ℕ)) (read new : List Event) (source_rose tell_rose disk_rose : Type 0) : Type 0 where
   pub stands : EveryDisk (StandsForHistory set h0) read
   pub runs : Runs status every set h0 left left' read new source_rose tell_rose disk_rose
@@ -223,10 +224,11 @@ pub record Finds (honest : Type 0) (status : Status) (host : Seen) : Type 0 wher
   -- and a database that stands for a history is never damaged
   pub damaged : (part : ℕ) → status ≡ Damaged part → honest → (set : Settings) (h : List Beat) → StandsForHistory set h (reads_as host.past) → ⊥
   -- Damaged says which part. 1 to 4 where there is a database, and it is in no form: 1 is the checkpoint's file, 2 its
-  -- body, 3 an extent and 4 the journal, and the first that is damaged is told. 5 where all of these are in form, and the
-  -- side is not good, a note does not go on, or a point is of no series that is there. What the pages of the extents hold
-  -- is not asked. A disk has one form at most, so that IsDamaged and NotesGo true exclude each other. So where there is a
-  -- database, and neither the disk nor memory fails, the status is Damaged exactly where NotesGo true does not hold.
+  -- body, 3 an extent and 4 the journal, and the first that is damaged is told. 5 where all of these are in form, and
+  -- the side is not good, a note does not go on, or a point is of no series that is there. What the pages of the
+  -- extents hold is not asked. A disk has one form at most, so that IsDamaged and NotesGo true exclude each other. So
+  -- where there is a database, and neither the disk nor memory fails, the status is Damaged exactly where NotesGo true
+  -- does not hold.
   pub parts : (part : ℕ) → status ≡ Damaged part → (1 ≤ part) × (part ≤ 5)
   pub made : (part : ℕ) → status ≡ Damaged part → honest → is_made (reads_as host.past) ≡ true
   pub damaged_files : (part : ℕ) → part ≤ 4 → status ≡ Damaged part → honest → IsDamaged (reads_as host.past)

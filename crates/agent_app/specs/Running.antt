@@ -28,7 +28,8 @@ use Rattle.agent_app.specs.Run.{history_with_text, run_reading, run_rules, Fails
 
 -- ---- a run under way
 
--- After these lines the run's agent and feed are of just these, `made` was told since the start, whole lines, and a crash at any moment since left what it may leave.
+-- After these lines the run's agent and feed are of just these, `made` was told since the start, whole lines, and a
+-- crash at any moment since left what it may leave.
 pub record RunsAt (past : List Event) (running : Running) (every : ℕ) (set : Settings) (h0 : List Beat) (start : List Event) (read : List Line) (made : List ℕ) : Type 0 where
   pub within : IsWithin (registry_of h0)
   pub accepted : AreAccepted every h0 read

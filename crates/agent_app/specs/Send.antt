@@ -33,8 +33,8 @@ ends_a_send status = false
 pub record Sends (status : Status) (set : Settings) (h : List Beat) (link link' : LinkSeen) (new : List Event) : Type 0 where
   pub result : SessionResult
   pub status_is : status ≡ session_status result
-  -- It did what a child does with the frames in the bytes that it took. A prefix of what that says was sent, and all of it
-  -- unless the link or memory failed; and that is why it ended.
+  -- It did what a child does with the frames in the bytes that it took. A prefix of what that says was sent, and all of
+  -- it unless the link or memory failed; and that is why it ended.
   pub exchanges : Exchanges (child_does set.id (data_of_history set h)) (child_begins set.id) result link link'
   -- at the end that history is all that a crash leaves
   pub stands : EveryDisk (StandsForHistory set h) new
@@ -43,7 +43,8 @@ pub record Sends (status : Status) (set : Settings) (h : List Beat) (link link' 
 
 -- `send` ended with this status, and left the link and the host so
 pub record SendsAll (honest : Type 0) (status : Status) (link link' : LinkSeen) (host host' : Seen) : Type 0 where
-  -- the history is the one that the files read as; where it was not read, the disk or memory failed, and nobody was spoken to
+  -- the history is the one that the files read as; where it was not read, the disk or memory failed, and nobody was
+  -- spoken to
   pub sends : honest → (set : Settings) (h : List Beat) → StandsForHistory set h (reads_as host.past)
       → Sends status set h link link' host'.past ⊎ (((status ≡ DiskFault) ⊎ (status ≡ Memory)) × (link' ≡ link))
   -- where no call on the outside fails, the status is that of all bytes of the link, or memory ran out

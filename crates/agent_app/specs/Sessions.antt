@@ -45,16 +45,17 @@ session_status (Err fault) = fault_status fault
 
 -- ---- what is taken of the link, whatever the host tells
 
--- A session ended so, with this status, and took of the link what a session may: at most 2^40 bytes, which say why it ended.
--- Or no database was opened, and nothing was taken. `EndsAt` says at which frames an end may end a session, and `EndsAs` with
--- which status.
+-- A session ended so, with this status, and took of the link what a session may: at most `input_limit` bytes, which say
+-- why it ended. Or no database was opened, and nothing was taken. `EndsAt` says at which frames an end may end a
+-- session, and `EndsAs` with which status.
 abbrev pub TakesSession : (EndsAt : SessionResult → List Frame → Frame → Type 0) → (EndsAs : SessionResult → Status → Type 0) → Status → (link link' : LinkSeen) → Type 0
 TakesSession EndsAt EndsAs s link link' =
     ((result : SessionResult) × EndsAs result s × TakesLink EndsAt result link link') ⊎ (((finds_none s ≡ true) ⊎ (s ≡ status.DiskFault) ⊎ (s ≡ status.Memory)) × (link' ≡ link))
 
 -- ---- with which status a session ends over all bytes of its link, where nothing outside of it fails
 
--- the status of a session over these bytes that no frame ends, by what stands behind the frames; one of these cases holds at most
+-- the status of a session over these bytes that no frame ends, by what stands behind the frames; one of these cases
+-- holds at most
 abbrev pub EndsBehind : Status → (bytes rest : List ℕ) → Type 0
 EndsBehind s bytes rest =
     (IsTooLong rest × (s ≡ status.PeerRefused (peer_kind FrameTooLong)))
@@ -62,8 +63,8 @@ EndsBehind s bytes rest =
     ⊎ (IsOpen rest × (length bytes < input_limit) × (s ≡ status.LinkEnded))
     ⊎ (IsOpen rest × (input_limit ≤ length bytes) × (s ≡ status.InputLimit))
 
--- The status of a session over these bytes that the frames end so. Where they do not end it, and no more of them stand in the
--- rest, that gives the status.
+-- The status of a session over these bytes that the frames end so. Where they do not end it, and no more of them stand
+-- in the rest, that gives the status.
 abbrev pub EndsOver : Status → (ended : Option SessionResult) → (bytes rest : List ℕ) → Type 0
 EndsOver s (Some result) bytes rest = s ≡ session_status result
 EndsOver s None bytes rest = HasNoFrame rest → EndsBehind s bytes rest

@@ -1,5 +1,5 @@
 //! The command `collect`: a program is run as a collector, and its beats are stored behind those of a database.
-ghost use Rattle.std.specs.Prelude.{◌≡◌, ◌≢◌, ◌<◌, ◌≤◌, ◌++◌, [], length, IfOk, OnOk};
+ghost use Rattle.std.specs.Prelude.{◌≡◌, ◌≢◌, ◌<◌, ◌≤◌, [], length, IfOk};
 ghost use Rattle.history.specs.declared.limits.TheConstants.{UPDATE_EVERY_LIMIT};
 ghost use Rattle.agent_app.specs.Collect.{collector_of, halt_status, outside_of, program_of, CollectsAll};
 ghost use Rattle.agent_app.specs.Command.{IsCollector};
@@ -7,7 +7,7 @@ ghost use Rattle.agent_app.specs.Command.{IsCollector};
 use crate::run::opening_status;
 use crate::running::Running;
 use agent_core::Agent;
-use fixed_num::{Text, WordsList};
+use fixed_num::WordsList;
 use host_model::{Clock, Host, Spawner, Status};
 use plugin_runner::{Halt, RunFault, Runner, take_collected};
 use std::alloc::{AllocError, Global};
@@ -15,22 +15,12 @@ use std::alloc::{AllocError, Global};
 /// A program that is to be run as a collector.
 #[derive(Drop)]
 pub struct Collector {
-    /// How many seconds lie between its beats, 1 to 86,400.
+    /// How many seconds lie between its beats, 1 to `UPDATE_EVERY_LIMIT`.
     pub every: u32,
-    /// How often it is started at most, 1 to 1,000.
+    /// How often it is started at most, 1 to `STARTS_LIMIT`.
     pub starts: u32,
     /// The program and its arguments.
     pub words: WordsList,
-}
-
-/// Adds copies of these words.
-fn push_words(all: &mut WordsList, words: &[Text]) -> Result<(), AllocError>
-    ensures { OnOk result (all.new ≡ all.old ++ words.now) }
-{
-    for word in words {
-        all.push(word.clone()?)?;
-    }
-    Ok(())
 }
 
 /// The words of the program that a command line runs: those behind the first three.
@@ -38,9 +28,8 @@ fn program(alloc: Global, words: &WordsList) -> Result<WordsList, AllocError>
     requires { 3 < length words.now }
     ensures { IfOk result (λ program. program ≡ program_of words.now) }
 {
-    let mut program = WordsList::new(alloc);
-    push_words(&mut program, &words.as_slice()[3..])?;
-    Ok(program)
+    let program = words.as_slice()[3..].to_vec(alloc)?;
+    Ok(WordsList::from_vec(program))
 }
 
 /// The status of a run whose collector halted so. A line that ends the text, a DISABLE, disables the program.

@@ -16,9 +16,6 @@ use history::UPDATE_EVERY_LIMIT;
 use std::alloc::{AllocError, Global};
 use tier_settings::{MOST_EXTENTS, MOST_ITEMS};
 
-/// The most seconds that may lie between the beats of a collector.
-pub const EVERY_LIMIT: u32 = UPDATE_EVERY_LIMIT;
-
 /// How often a collector may be started at most.
 pub const STARTS_LIMIT: u32 = 1_000;
 
@@ -45,7 +42,7 @@ pub struct Plan {
 pub enum Command {
     /// Runs a program, the words behind the first three, as a collector, and stores the beats of its text.
     Collect {
-        /// How many seconds lie between its beats, 1 to `EVERY_LIMIT`.
+        /// How many seconds lie between its beats, 1 to `UPDATE_EVERY_LIMIT`.
         every: u32,
         /// How often it is started at most, 1 to `STARTS_LIMIT`.
         starts: u32,
@@ -168,7 +165,7 @@ fn read_collect(words: &[&str]) -> Option<Command>
 {
     match words {
         [every, starts, _program, ..] => Some(Command::Collect {
-            every: read_up_to(EVERY_LIMIT, every)?,
+            every: read_up_to(UPDATE_EVERY_LIMIT, every)?,
             starts: read_up_to(STARTS_LIMIT, starts)?,
         }),
         _ => None,

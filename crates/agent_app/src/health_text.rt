@@ -2,12 +2,13 @@
 ghost use Rattle.std.specs.Prelude.{◌≡◌, ◌<◌, ◌≤◌, ◌++◌, [], length, take, IsErrOf, IfOk, IfErr, IfSome};
 ghost use Rattle.host_model.specs.Cause.{HasCause};
 ghost use Rattle.host_model.specs.Source.{Takes};
+ghost use Rattle.agent_app.specs.declared.health_text.HealthEnd.TheVariants.{Memory, ReadFault};
 ghost use Rattle.agent_app.specs.HealthText.{Stops, TakesText};
 
 use fixed_num::ByteList;
 use health_config::TEXT_LIMIT;
-use host_model::Source;
-use std::alloc::Global;
+use host_model::{Failed, Source};
+use std::alloc::{AllocError, Global};
 
 /// How many bytes are asked of the source at once.
 const PIECE_SIZE: usize = 1 << 16;
@@ -21,6 +22,22 @@ pub(crate) enum HealthEnd {
     TooLong,
     /// There was no memory.
     Memory,
+}
+
+impl From<Failed> for HealthEnd {
+    ghost from_gives = { λ _ end. end ≡ ReadFault };
+
+    fn from(_error: Failed) -> HealthEnd {
+        HealthEnd::ReadFault
+    }
+}
+
+impl From<AllocError> for HealthEnd {
+    ghost from_gives = { λ _ end. end ≡ Memory };
+
+    fn from(_error: AllocError) -> HealthEnd {
+        HealthEnd::Memory
+    }
 }
 
 /// Adds to the text what the source gives next, and says how many bytes that is: none at its end.
@@ -40,13 +57,9 @@ fn take_piece<S: Source>(
     ensures cause { HasCause (S.faults source.old) (S.faults source.new)
         (IsErrOf result HealthEnd.ReadFault) }
 {
-    let Ok(taken) = source.pull(piece) else {
-        return Err(HealthEnd::ReadFault);
-    };
-    match text.extend(&piece[..taken]) {
-        Ok(()) => Ok(taken),
-        Err(_) => Err(HealthEnd::Memory),
-    }
+    let taken = source.pull(piece)?;
+    text.extend(&piece[..taken])?;
+    Ok(taken)
 }
 
 /// Takes the text piece by piece, each into `piece`.
@@ -82,8 +95,6 @@ pub(crate) fn read_health<S: Source>(alloc: Global, source: &mut S) -> Result<By
     ensures cause { HasCause (S.faults source.old) (S.faults source.new)
         (IsErrOf result HealthEnd.ReadFault) }
 {
-    let Ok(mut piece) = vec![in alloc; 0; PIECE_SIZE] else {
-        return Err(HealthEnd::Memory);
-    };
+    let mut piece = vec![in alloc; 0; PIECE_SIZE]?;
     take_pieces(alloc, &mut piece, source)
 }

@@ -24,9 +24,9 @@ use host_model::Host;
 /// `health` and `receive` store. Between them questions may be asked, texts converted, copies sent to a parent and
 /// `new` tried, also after a `new` that failed. Whatever a crash leaves at the end, or at any moment of one command
 /// more, is what these stored from one of those databases, in order. Each goes on from what the one before left, by
-/// a prefix of what it took, and by all of it unless it ended with 4, 5 or 15: the beats of its text, the
-/// configuration, or the gaps and the beats of the Data that came over its link. Every beat that it acknowledged is
-/// there. It does nothing.
+/// a prefix of what it took, and by all of it unless it ended with 4, 5 or 15. What it took is the beats of its
+/// text, the configuration, or the gaps and the beats of the Data that came over its link. Every beat that it
+/// acknowledged is there. It does nothing.
 pub fn crashes_leave_what_was_stored<H: Host>()
     ensures kept { H.honest → (starts : List (Option Database)) (tried : List ASettings)
         (runs : List OneRun) (host : H)

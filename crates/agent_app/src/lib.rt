@@ -8,8 +8,8 @@
 //! database stays within its share at every moment.
 //!
 //! It stands on `line_stream` for the lines of a stream, on `plugin_runner` for those of a program that is run as a
-//! collector, on `point_lines` for what the lines of a text tell, on `link_session` for what two agents say to each
-//! other, on `agent_core` for the agent whose beats are stored, and on `host_model` for the outside.
+//! collector, and on `point_lines` for what the lines of a text tell. `link_session` is what two agents say to each
+//! other, `agent_core` the agent whose beats are stored, and `host_model` the outside.
 #![tactic(auto)]
 
 ghost use Rattle.std.specs.Prelude.{◌≡◌, ◌⊎◌, ℕ, None, Some};
@@ -72,8 +72,8 @@ pub use law::crashes_leave_what_was_stored;
 /// many lines were skipped, if any were. A text that is refused tells `REFUSED`, the number of the
 /// line and the number of the refusal, after the points of the beats before. Where a moment is not
 /// above the last one, that is told behind the two numbers. A text that asks for too many charts or
-/// dimensions tells `LIMIT` so. No more than 2^40 bytes are taken of the input. Any command may
-/// run out of memory at any place, and ends with `Status::Memory` then.
+/// dimensions tells `LIMIT` so. No more than `line_stream::INPUT_LIMIT` bytes, 2^40, are taken of the
+/// input. Any command may run out of memory at any place, and ends with `Status::Memory` then.
 ///
 /// `new ID`, or `new ID P0 Q0 P1 Q1 P2 Q2`, makes a database on the host's disk: its id below 2^64,
 /// and for each tier how many items make a segment full and how many segments are kept. `Exists`
@@ -83,8 +83,8 @@ pub use law::crashes_leave_what_was_stored;
 /// `STORED` and the beat's number in the history, and then a line for each event of an alarm that the beat
 /// makes: no crash loses the beat then. A refusal is told as by `convert`, and the beats before it stay. A
 /// QUERY line is answered at its place, over the history there: with `ROWS`, how many windows there are and
-/// the ids of the dimensions, and then a line for each window, its start and its values; or with `ERROR` and
-/// a number, which ends nothing.
+/// the ids of the dimensions, and then a line for each window, its start and its values. Or it is answered
+/// with `ERROR` and a number, which ends nothing.
 ///
 /// `collect EVERY STARTS PROGRAM [ARG..]` starts a program and stores the beats of what it writes, as `run` does with
 /// its input. EVERY is how many seconds lie between beats, 1 to 86,400: the program is handed it before its own
@@ -106,7 +106,7 @@ pub use law::crashes_leave_what_was_stored;
 /// at the other end of the link sends behind the history of the database, which is a copy of that child's. As soon
 /// as a part of it is stored it tells `STORED` and the number of its last beat in the history, and then a line for
 /// each event that its beats make. After that the child is answered. What the database does not take is told as
-/// `REFUSED 0` or `LIMIT 0` and the number of the refusal. No more than 2^40 bytes are taken of the link.
+/// `REFUSED 0` or `LIMIT 0` and the number of the refusal. No more than as many bytes are taken of the link.
 /// `LinkFault` where a call on the link fails, `PeerRefused` where one end refuses the other, and `LinkEnded` where
 /// the other end sends no more before it was done. Where nothing outside fails, the frames in all the bytes of the
 /// link and what stands behind them give the status, or it is `Memory`. The link knows the address.

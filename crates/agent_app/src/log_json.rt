@@ -3,31 +3,13 @@ ghost use Rattle.std.specs.Prelude.{◌≡◌, ℕ, List, ◌++◌, codes, map, 
 ghost use Rattle.serde_json.specs.Data.{string, put as with_member};
 ghost use Rattle.serde_json.specs.Read.{read};
 ghost use Rattle.serde_json.specs.View.{view, members_view};
-ghost use Rattle.alarm_events.specs.Event as event_spec;
 ghost use Rattle.agent_app.specs.LogJson as spec;
 ghost use Rattle.agent_app.specs.LogText.{shown_by};
 
-use alarm_events::{Event, Log};
-use fixed_num::{Text, write_units};
-use health_expr::Value;
+use alarm_events::{Event, Log, value_text};
+use fixed_num::Text;
 use serde_json::{Map, Value as Json, json, put};
 use std::alloc::{AllocError, Global};
-
-/// The text of what an alarm is worth, as in the line of an event.
-fn value_text(alloc: Global, value: Value) -> Result<Text, AllocError>
-    ensures { IfOk result (λ text. text ≡ event_spec.value_text value) }
-{
-    let mut text = Text::new(alloc);
-    match value {
-        Value::Nan => text.push_str("nan")?,
-        Value::Inf(false) => text.push_str("inf")?,
-        Value::Inf(true) => text.push_str("-inf")?,
-        Value::Fixed(units) => {
-            write_units(&mut text, units).map_err(|_| AllocError)?;
-        }
-    }
-    Ok(text)
-}
 
 /// When an event is due, or null.
 fn due_json(due: Option<u32>) -> Json
@@ -56,7 +38,7 @@ fn put_text(
 fn event_json(alloc: Global, event: &Event) -> Result<Json, AllocError>
     ensures { IfOk result (λ json. view json ≡ spec.event_data event.now) }
 {
-    let value = value_text(alloc, event.value)?;
+    let value = value_text(alloc, event.value).map_err(|_| AllocError)?;
     let mut object = Map::new(alloc);
     put_text(&mut object, alloc, "alarm", event.alarm.as_str())?;
     put_text(&mut object, alloc, "chart", event.chart.as_str())?;

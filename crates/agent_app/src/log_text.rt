@@ -20,10 +20,8 @@ fn dropped_line(alloc: Global, dropped: u64) -> Result<Text, AllocError>
 fn push_line(alloc: Global, text: &mut Text, event: &Event) -> Result<(), AllocError>
     ensures { OnOk result (text.new ≡ text.old ++ event_line event.now) }
 {
-    match write_event(alloc, event) {
-        Ok(line) => text.push_str(line.as_str()),
-        Err(_) => Err(AllocError),
-    }
+    let line = write_event(alloc, event).map_err(|_| AllocError)?;
+    text.push_str(line.as_str())
 }
 
 /// Adds the lines of events.

@@ -23,8 +23,8 @@ fn close<H: Host>(alloc: Global, host: &mut H, ended: Result<(), SessionFault>) 
     }
 }
 
-/// Opens the database, stores the copies that the child at the other end of the link sends behind those that it has, and
-/// tells each part once it is stored. Then the child is told that it is.
+/// Opens the database, stores the copies that the child at the other end of the link sends behind those that it has,
+/// and tells each part once it is stored. Then the child is told that it is.
 pub fn receive<H: Host, L: Link>(alloc: Global, host: &mut H, link: &mut L) -> Status
     ensures { ReceivesAll H.honest result
         (link_seen (L.sent link.old) (L.left link.old) (L.faults link.old))

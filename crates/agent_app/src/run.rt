@@ -18,11 +18,7 @@ pub(crate) fn opening_status(fault: AgentFault) -> Status
         AgentFault::DiskFault => Status::DiskFault,
         AgentFault::NotADatabase => Status::NotADatabase,
         AgentFault::Damaged(part) => Status::Damaged(part),
-        AgentFault::Refused(_)
-        | AgentFault::Health(_)
-        | AgentFault::Reopen(_)
-        | AgentFault::Exists
-        | AgentFault::Memory => Status::Memory,
+        _ => Status::Memory,
     }
 }
 

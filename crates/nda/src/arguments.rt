@@ -45,9 +45,12 @@ pub enum TextKind {
 pub fn notice_of(words: &WordsList) -> Option<Notice>
     ensures { result ≡ notice_of words.now }
 {
-    match words.as_slice() {
-        [word] if word.as_str() == "--help" => Some(Notice::Help),
-        [word] if word.as_str() == "--version" => Some(Notice::Version),
+    let [word] = words.as_slice() else {
+        return None;
+    };
+    match word.as_str() {
+        "--help" => Some(Notice::Help),
+        "--version" => Some(Notice::Version),
         _ => None,
     }
 }
@@ -57,11 +60,12 @@ pub fn notice_of(words: &WordsList) -> Option<Notice>
 pub fn lock_of(words: &WordsList) -> LockKind
     ensures { result ≡ lock_of words.now }
 {
-    match words.as_slice() {
-        [command, ..] if command.as_str() == "convert" => LockKind::None,
-        [command, ..] if command.as_str() == "log" => LockKind::Shared,
-        [command, ..] if command.as_str() == "query" => LockKind::Shared,
-        [command, ..] if command.as_str() == "send" => LockKind::Shared,
+    let [command, ..] = words.as_slice() else {
+        return LockKind::Alone;
+    };
+    match command.as_str() {
+        "convert" => LockKind::None,
+        "log" | "query" | "send" => LockKind::Shared,
         _ => LockKind::Alone,
     }
 }
@@ -70,9 +74,12 @@ pub fn lock_of(words: &WordsList) -> LockKind
 pub fn peer_of(words: &WordsList) -> Peer
     ensures { result ≡ peer_of words.now }
 {
-    match words.as_slice() {
-        [command, _] if command.as_str() == "receive" => Peer::Child,
-        [command, _] if command.as_str() == "send" => Peer::Parent,
+    let [command, _address] = words.as_slice() else {
+        return Peer::Nobody;
+    };
+    match command.as_str() {
+        "receive" => Peer::Child,
+        "send" => Peer::Parent,
         _ => Peer::Nobody,
     }
 }
@@ -91,11 +98,13 @@ pub fn address_of(words: &WordsList) -> &str
 pub fn text_kind_of(words: &WordsList) -> TextKind
     ensures { result ≡ text_kind_of words.now }
 {
-    match words.as_slice() {
-        [command, ..] if command.as_str() == "collect" => TextKind::Collected,
-        [command, ..] if command.as_str() == "health" => TextKind::Alarms,
-        [command, ..] if command.as_str() == "receive" => TextKind::Frames,
-        [command, ..] if command.as_str() == "send" => TextKind::Frames,
+    let [command, ..] = words.as_slice() else {
+        return TextKind::Beats;
+    };
+    match command.as_str() {
+        "collect" => TextKind::Collected,
+        "health" => TextKind::Alarms,
+        "receive" | "send" => TextKind::Frames,
         _ => TextKind::Beats,
     }
 }

@@ -38,8 +38,12 @@ impl Ending {
         }
     }
 
+    /// Writes what happened, and why where the system said it.
     fn write_event<W: fmt::Write>(&self, f: &mut fmt::Formatter<W>) -> fmt::Result {
         match self.status {
+            // No line is written then.
+            Status::Ok => f.write_str("all was done"),
+            Status::Usage => f.write_str("the words of the command line are in no form"),
             Status::Refused(line, number) | Status::Limit(line, number) => {
                 write_refusal(f, self.text, line, number)
             }
@@ -49,25 +53,25 @@ impl Ending {
                 "standard output cannot be written",
                 &self.output,
             ),
-            Status::DiskFault => write_disk(f, &self.disk),
+            Status::DiskFault => write_failure(f, "the disk cannot be used", &self.disk),
             Status::LinkFault => write_failure(f, "the link to the other agent failed", &self.link),
+            Status::NotADatabase => f.write_str("there is no database in this folder"),
+            Status::Exists => f.write_str("there is a database in this folder already"),
+            Status::Damaged(part) => write_damage(f, part),
+            Status::PeerRefused(kind) => write_peer_refusal(f, kind),
+            Status::LinkEnded => f.write_str("the link ended before the other agent was done"),
             Status::SpawnFault => write_failure(
                 f,
                 "the collector could not be started, read or waited for",
                 &self.program,
             ),
-            Status::Damaged(part) => {
-                let name = part_of(part);
-                write!(
-                    f,
-                    "the database here is damaged, or none of this program: part {part}, {name}"
-                )
+            Status::Disabled => {
+                f.write_str("the collector ended with another status than 0, or wrote DISABLE")
             }
-            Status::PeerRefused(kind) => {
-                let reason = peer_reason_of(kind);
-                write!(f, "the exchange is refused with kind {kind}, {reason}")
+            Status::InputLimit => {
+                f.write_str("2^40 bytes of input were taken, and no end had come")
             }
-            status => f.write_str(event_of(status)),
+            Status::Memory => f.write_str("out of memory"),
         }
     }
 
@@ -117,20 +121,6 @@ fn part_of(part: u32) -> &'static str {
         3 => "a sealed segment",
         4 => "its journal",
         _ => "what a beat or the side of its checkpoint says",
-    }
-}
-
-/// What happened, for each status that needs no more words.
-fn event_of(status: Status) -> &'static str {
-    match status {
-        Status::Usage => "the words of the command line are in no form",
-        Status::NotADatabase => "there is no database in this folder",
-        Status::Exists => "there is a database in this folder already",
-        Status::LinkEnded => "the link ended before the other agent was done",
-        Status::Disabled => "the collector ended with another status than 0, or wrote DISABLE",
-        Status::InputLimit => "2^40 bytes of input were taken, and no end had come",
-        Status::Memory => "out of memory",
-        _ => "all was done",
     }
 }
 
@@ -209,22 +199,30 @@ fn write_refusal<W: fmt::Write>(
     write!(f, "line {line} is refused with {number}, {reason}")
 }
 
-/// Writes what failed, and the system's reason where it gave one.
-fn write_failure<W: fmt::Write>(
+/// Writes which part of the database is damaged.
+fn write_damage<W: fmt::Write>(f: &mut fmt::Formatter<W>, part: u32) -> fmt::Result {
+    let name = part_of(part);
+    write!(
+        f,
+        "the database here is damaged, or none of this program: part {part}, {name}"
+    )
+}
+
+/// Writes why one agent refused the other.
+fn write_peer_refusal<W: fmt::Write>(f: &mut fmt::Formatter<W>, kind: u32) -> fmt::Result {
+    let reason = peer_reason_of(kind);
+    write!(f, "the exchange is refused with kind {kind}, {reason}")
+}
+
+/// Writes what failed, and the reason where there is one.
+fn write_failure<W: fmt::Write, E: fmt::Display>(
     f: &mut fmt::Formatter<W>,
     what: &str,
-    reason: &Option<io::Error>,
+    reason: &Option<E>,
 ) -> fmt::Result {
     match reason {
         Some(reason) => write!(f, "{what}: {reason}"),
         None => f.write_str(what),
-    }
-}
-
-fn write_disk<W: fmt::Write>(f: &mut fmt::Formatter<W>, reason: &Option<DiskError>) -> fmt::Result {
-    match reason {
-        Some(reason) => write!(f, "the disk cannot be used: {reason}"),
-        None => f.write_str("the disk cannot be used"),
     }
 }
 

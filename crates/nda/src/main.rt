@@ -1,9 +1,9 @@
 //! The program `nda`: the commands of the agent over the process's own words, input and output.
 //!
 //! It makes the list of words, and hands it with standard input, standard output, the files of the
-//! current folder, a link to another agent, what starts programs and the clock to `agent_main`, whose contract says the rest. The
-//! status that comes back is the exit status; where it is not 0, a line on standard error says what
-//! happened and what is to be done.
+//! current folder, a link to another agent, what starts programs and the clock to `agent_main`, whose contract says the
+//! rest. The status that comes back is the exit status; where it is not 0, a line on standard error says what happened
+//! and what is to be done.
 #![tactic(auto)]
 
 mod arguments;

@@ -11,7 +11,7 @@ use std::test::Fail;
 const TEXT: &str =
     "CHART test.one '' 'One' 'units'\nDIMENSION a\nBEGIN test.one\nSET a = 42\nEND\n";
 
-/// What is told, where each of the two is stored.
+/// What is told: the beat of one start, those of two more, and the reply.
 const TOLD: &str = "STORED 1\nSTORED 2\nSTORED 3\nROWS 3 a\n100 42\n101 42\n102 42\n";
 
 /// The words of a command line, and how it ends.

@@ -58,7 +58,7 @@ Halts acts (AtEnd status) answer taker host text taker' host' = (answer ≡ Ok t
 Halts acts (Within status) answer taker host text taker' host' = (left : Option (List ℕ)) → Ended acts status taker host text taker' host' left ⊥
 Halts acts (Failed fault) answer taker host text taker' host' = (answer ≡ Err fault) × LeftWhole acts taker host text taker' host'
 
--- From a new course turns were taken, and the taker was handed the text that they put, up to 2^40 bytes.
+-- From a new course turns were taken, and the taker was handed the text that they put, up to `input_limit` bytes.
 pub record Collected {T H : Type 0} (acts : Acts T H) (halt : Halt) (begin : Course) (taker : T) (host : H) (taker' : T) (host' : H) (before after : Option Children) (ahead ahead' : Option (List ℕ)) : Type 0 where
   pub course : Course
   pub answer : Result Turn RunFault

@@ -21,8 +21,8 @@ started (suc starts) (child ∷ more) = child ∷ (if int_eq child.status (pos 0
 abbrev pub whole_children : ℕ → List Child → List Heard
 whole_children starts coming = map heard_whole (reverse (started starts coming))
 
--- A runner was new over a spawner with these children to come, and took turns none of which was the last. Now this is its
--- course, and the spawner tells these children.
+-- A runner was new over a spawner with these children to come, and took turns none of which was the last. Now this is
+-- its course, and the spawner tells these children.
 pub data Run (coming : List Child) : Course → Children → Type 0 where
   begins : (words : List (List ℕ)) (every starts last : ℕ) (before : List (List (List ℕ))) → Run coming (new_course words every starts last) (record { starts = before; running = None; coming = coming })
   goes_on : (course : Course) (event : Option Event) (taken added : List ℕ) (before after : Children) (faults faults' : ℕ) → Run coming course before

@@ -7,6 +7,7 @@ use Rattle.history.specs.declared.line.Line.TheVariants.{Begin}
 use Rattle.history.specs.Looking.{open_block}
 use Rattle.history.specs.Read.{is_disable}
 use Rattle.plugin_text.specs.Line.{line as line_of}
+use Rattle.plugin_text.specs.declared.splitter.TheConstants.{LINE_LIMIT}
 use Rattle.plugin_text.specs.Lines.{parts, fits}
 use Rattle.plugin_runner.specs.Looking.{last_moment, beats_begun, reading_at, charts, has_row}
 use Rattle.plugin_runner.specs.declared.moment.TheConstants.{TOO_LATE}
@@ -92,13 +93,13 @@ abbrev pub disables : List ℕ → Bool
 disables bytes = option_map_or is_disable (meaning bytes) false
 
 -- The text after what stands between a child's line feeds. A line that says DISABLE is the last, and where
--- 8,193 bytes have no line feed the text ends with these.
+-- `LINE_LIMIT` + 1 bytes have no line feed the text ends with these.
 abbrev pub hear : Origin → List ℕ → List (List ℕ) → List (List ℕ) → Text
 hear origin readings past [] = Open past
-hear origin readings past (rest ∷ []) = if fits rest then Open past else Closed past (take 8193 rest)
+hear origin readings past (rest ∷ []) = if fits rest then Open past else Closed past (take (LINE_LIMIT + 1) rest)
 hear origin readings past (line ∷ next ∷ more) =
     if fits line then (if disables line then Closed (put line origin readings past) [] else hear origin readings (put line origin readings past) (next ∷ more))
-    else Closed past (take 8193 line)
+    else Closed past (take (LINE_LIMIT + 1) line)
 
 -- what came of a child: the bytes that it wrote, and its status once it was told to have ended
 pub record Heard : Type 0 where

@@ -1,19 +1,9 @@
 //! The words of a start.
-ghost use Rattle.std.specs.Prelude.{◌≡◌, ◌++◌, IfOk, OnOk};
+ghost use Rattle.std.specs.Prelude.{◌≡◌, IfOk};
 ghost use Rattle.plugin_runner.specs.Words.{start_words};
 
 use fixed_num::{Text, WordsList};
 use std::alloc::{AllocError, Global};
-
-/// Adds copies of these words.
-fn push_words(all: &mut WordsList, words: &[Text]) -> Result<(), AllocError>
-    ensures { OnOk result (all.new ≡ all.old ++ words.now) }
-{
-    for word in words {
-        all.push(word.clone()?)?;
-    }
-    Ok(())
-}
 
 /// The words that a child is started with: the program, `every`, and the arguments of the program.
 pub(crate) fn start_words(
@@ -23,15 +13,8 @@ pub(crate) fn start_words(
 ) -> Result<WordsList, AllocError>
     ensures { IfOk result (λ all. all ≡ start_words words.now every) }
 {
-    let mut all = WordsList::new(alloc);
     let every = Text::from_str(alloc, itoa::Buffer::new().format(every))?;
-    match words.as_slice() {
-        [program, arguments @ ..] => {
-            all.push(program.clone()?)?;
-            all.push(every)?;
-            push_words(&mut all, arguments)?;
-        }
-        [] => all.push(every)?,
-    }
-    Ok(all)
+    let mut all = words.as_slice().to_vec(alloc)?;
+    all.insert(all.len().min(1), every)?;
+    Ok(WordsList::from_vec(all))
 }

@@ -92,13 +92,10 @@ impl Follower {
             → Follows self.old origin readings past
             → Follows self.new origin readings (line.End ∷ past)) }
     {
-        match self.block.take() {
-            Some(chart) => {
-                self.rows.push(chart)?;
-                Ok(())
-            }
-            None => Ok(()),
+        if let Some(chart) = self.block.take() {
+            self.rows.push(chart)?;
         }
+        Ok(())
     }
 
     fn close_beat(&mut self, moment: u32)

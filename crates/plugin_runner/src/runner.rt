@@ -253,7 +253,7 @@ impl Runner {
         out: &mut ByteList,
     ) -> Result<Turn, RunFault>
         requires phase { self.old.phase ≡ phase.Runs }
-        requires room { length self.old.splitter.rest + length piece.now ≤ 8193 }
+        requires room { length self.old.splitter.rest + length piece.now ≤ ROOM }
         requires some { 0 < length piece.now }
         ensures turned { Turned result self.old self.new
             (P.faults spawner.old) (P.faults spawner.new) }
@@ -283,7 +283,7 @@ impl Runner {
         piece: &[u8],
         out: &mut ByteList,
     ) -> Result<Option<Ending>, AllocError>
-        requires room { length self.old.splitter.rest + length piece.now ≤ 8193 }
+        requires room { length self.old.splitter.rest + length piece.now ≤ ROOM }
         requires some { 0 < length piece.now }
         ensures phase { self.new.phase ≡ self.old.phase }
         ensures restarts { self.new.restarts ≡ self.old.restarts }

@@ -117,9 +117,10 @@ fn each_status_of_a_peer_or_a_collector_has_its_line(rt: HostRuntime) -> Result<
 
 /// An ending of a command that reads such a text.
 fn of_text(text: TextKind, status: Status) -> Ending {
-    let mut ending = Ending::of(status);
-    ending.text = text;
-    ending
+    Ending {
+        text,
+        ..Ending::of(status)
+    }
 }
 
 #[test]
@@ -251,8 +252,10 @@ fn a_failure_of_the_disk_names_what_failed(rt: HostRuntime) -> Result<(), Fail> 
         ),
     ];
     for (disk, line) in table {
-        let mut ending = Ending::of(Status::DiskFault);
-        ending.disk = Some(disk);
+        let ending = Ending {
+            disk: Some(disk),
+            ..Ending::of(Status::DiskFault)
+        };
         assert_says(&rt, &ending, line)?;
     }
     Ok(())
