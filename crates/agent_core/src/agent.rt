@@ -106,8 +106,9 @@ impl Agent {
 
     /// Makes the agent of a history without beats, and its database, where there is none.
     ///
-    /// `Exists` where there is a database, unless the disk fails or memory runs out, and nothing is written then. At every moment a crash
-    /// leaves what it might have left before the call, no database, or the one without beats; at `Ok` the last.
+    /// `Exists` where there is a database, unless the disk fails or memory runs out, and nothing is
+    /// written then. At every moment a crash leaves what it might have left before the call, no
+    /// database, or the one without beats; at `Ok` the last.
     pub fn create<H: Host>(
         alloc: Global,
         host: &mut H,
@@ -132,21 +133,23 @@ impl Agent {
 
     /// Opens the database of an agent and goes through all that it holds.
     ///
-    /// `NotADatabase` where there is none, unless the disk fails or memory runs out, and `Damaged` only where what is there
-    /// stands for no history. With 1 to 4 it tells the first part of the files that is not in its form: 1 the checkpoint's
-    /// file, 2 its body, 3 an extent, 4 the journal. With 5 all of these are in form, and the side of the checkpoint, a note
-    /// or a point is bad. What the pages of the extents hold, and whether any beats leave that, is not asked. A side is
-    /// bad where it is none, its charts and dimensions do not go on from nothing, or its alarms are of a text
-    /// that is refused or of a chart that is not there. A note is bad where it is no entry of a beat with the
-    /// moment of its record, does not go on from the side and the notes before, mixes copies with collected
-    /// beats, has a definition that does not keep its limits, or is a configuration whose text is refused. A
-    /// point is bad where it names a series that is not there. What a side says of last rows, last points and
-    /// gaps is compared with nothing. The words
-    /// and steps of points are not compared with their definition, and a gap's child and beginning are compared
-    /// with nothing. The alarms are those of that history: each beat steps them as it did when it was stored.
-    /// At `Ok` the agent is of each history that the disk stands for, and these are all
-    /// that a crash leaves from then on. At every moment a crash leaves what it might have left before, and each
-    /// file reads as before: the disk is only read and synced.
+    /// `NotADatabase` where there is none, unless the disk fails or memory runs out, and `Damaged`
+    /// only where what is there stands for no history. With 1 to 4 it tells the first part of the
+    /// files that is not in its form: 1 the checkpoint's file, 2 its body, 3 an extent, 4 the
+    /// journal. With 5 all of these are in form, and the side of the checkpoint, a note or a point
+    /// is bad. What the pages of the extents hold, and whether any beats leave that, is not asked.
+    /// A side is bad where it is none, its charts and dimensions do not go on from nothing, or its
+    /// alarms are of a text that is refused or of a chart that is not there. A note is bad where it
+    /// is no entry of a beat with the moment of its record, does not go on from the side and the
+    /// notes before, mixes copies with collected beats, has a definition that does not keep its
+    /// limits, or is a configuration whose text is refused. A point is bad where it names a series
+    /// that is not there. What a side says of last rows, last points and gaps is compared with
+    /// nothing. The words and steps of points are not compared with their definition, and a gap's
+    /// child and beginning are compared with nothing. The alarms are those of that history: each
+    /// beat steps them as it did when it was stored. At `Ok` the agent is of each history that the
+    /// disk stands for, and these are all that a crash leaves from then on. At every moment a crash
+    /// leaves what it might have left before, and each file reads as before: the disk is only read
+    /// and synced.
     pub fn open<H: Host>(alloc: Global, host: &mut H) -> Result<Agent, AgentFault>
         ensures { Opens H.honest (H.seen host.old)
             result (H.seen host.new) }
@@ -322,9 +325,9 @@ impl Agent {
         }
     }
 
-    /// Adds a beat that was judged, by number: first makes a checkpoint where one is due, and then has the registry take
-    /// what the beat defines. The alarms have still to follow it. After an `Err` nothing of the store and of what was left
-    /// is of use.
+    /// Adds a beat that was judged, by number: first makes a checkpoint where one is due, and then
+    /// has the registry take what the beat defines. The alarms have still to follow it. After an
+    /// `Err` nothing of the store and of what was left is of use.
     fn add_beat<H: Host>(&mut self, host: &mut H, numbered: &NumberedBeat) -> Result<(), AgentFault>
         requires fits { Fits H.honest (H.seen host.old).past self.old }
         requires later { self.old.last < numbered.now.moment }
