@@ -2,7 +2,7 @@
 //!
 //! An event says that the status of an alarm of a chart changed: when, from which of the six statuses to
 //! which, with what value, and until when telling it is to wait. `write_event` is proved to give its
-//! line. An `EventLog` keeps the last 1,000 events and the number of those before them, as one ring that
+//! line. An `EventLog` keeps the last `SHOWN` events and the number of those before them, as one ring that
 //! never grows: noting an event takes no memory, and the ids of events go on past those that are gone.
 //!
 //! `KeptAlarms` has the health text, the state of each alarm of a chart, the events that the log shows and the

@@ -16,11 +16,11 @@ pub const SHOWN: usize = 1_000;
 pub struct Log {
     /// How many events came before those that are shown. It stands still at 2^64 - 1.
     pub dropped: u64,
-    /// The last events, at most 1,000, the earliest first.
+    /// The last events, at most `SHOWN`, the earliest first.
     pub events: EventList,
 }
 
-/// The last 1,000 events, and how many came before them. Contracts see it as these.
+/// The last `SHOWN` events, and how many came before them. Contracts see it as these.
 #[derive(Debug, Drop)]
 pub struct EventLog {
     alloc: Global,
@@ -93,8 +93,8 @@ impl EventLog {
         })
     }
 
-    /// The log that shows these events, of which there are at most 1,000, behind so many. `Memory` where none
-    /// is left.
+    /// The log that shows these events, of which there are at most `SHOWN`, behind so many. `Memory` where
+    /// none is left.
     pub fn showing(alloc: Global, dropped: u64, events: &[Event]) -> Result<EventLog, AlarmFault>
         requires { length events.now ≤ SHOWN }
         ensures { IfOk result (λ log. log ≡ record { dropped = dropped; events = events.now }) }
@@ -118,8 +118,8 @@ impl EventLog {
         self.dropped.saturating_add(shown).saturating_add(1)
     }
 
-    /// Adds an event with the next id in place of its own. Where 1,000 are shown, the earliest of them is
-    /// dropped.
+    /// Adds an event with the next id in place of its own. Where `SHOWN` are shown, the earliest of them
+    /// is dropped.
     pub fn note(&mut self, mut event: Event)
         ensures noted { self.new ≡ noted self.old event }
         ensures log { (all : List AnEvent) → self.old ≡ shown all

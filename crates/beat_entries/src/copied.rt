@@ -21,11 +21,11 @@ fn names_words(registry: &Registry, words: &[CopiedWord]) -> bool
     words.iter().all(|word| word.series < dimensions)
 }
 
-/// Defines in the registry what the entry of a copied beat defines. A chart's name and family are the part of its id
-/// behind the first dot, a dimension's name is its id, and what else a copy does not tell is as usual. `NotNext` exactly
-/// where the entry does not go on from what the registry has, and memory is there: a definition that does not keep its
-/// limits, or that the registry refuses or numbers otherwise, or a word of a series that is not there. After an `Err`
-/// the registry may have taken a part of the definitions.
+/// Defines in the registry what the entry of a copied beat defines. A chart's name and family are the part of
+/// its id behind the first dot, a dimension's name is its id, and what else a copy does not tell is as usual.
+/// `NotNext` exactly where the entry does not go on from what the registry has, and memory is there: a
+/// definition that does not keep its limits, or that the registry refuses or numbers otherwise, or a word of a
+/// series that is not there. After an `Err` the registry may have taken a part of the definitions.
 pub fn define_copied(
     alloc: Global,
     registry: &mut Registry,

@@ -81,8 +81,9 @@ fn take_dimension(
     Ok(())
 }
 
-/// Takes dimensions, each by its number, of charts that are there. `NotNext` only where one does not keep its limits, or
-/// the registry refuses it or numbers it otherwise. After an `Err` the registry has taken those before it.
+/// Takes dimensions, each by its number, of charts that are there. `NotNext` only where one does not keep its
+/// limits, or the registry refuses it or numbers it otherwise. After an `Err` the registry has taken those
+/// before it.
 pub fn define_dimensions(
     registry: &mut Registry,
     dimensions: &[NumberedDimension],

@@ -73,15 +73,14 @@ fn number_content<'a>(
     if let Some(why) = content_refusal(&coming, moment, &found) {
         return Err(BeatFault::Refused(why));
     }
-    match number(alloc, &coming, moment, beat, found.rows) {
-        Ok(numbered) => Ok(numbered),
-        Err(_) => Err(BeatFault::Memory),
-    }
+    let numbered = number(alloc, &coming, moment, beat, found.rows)?;
+    Ok(numbered)
 }
 
-/// What a history with this registry makes of a beat that was collected at `moment`: its refusal, or the beat by the
-/// numbers that it has once the registry takes its definitions. `copies` says that the history has copied beats or gaps,
-/// and `last` is its last moment. Each chart of a row and each of its values is looked up once.
+/// What a history with this registry makes of a beat that was collected at `moment`: its refusal, or the beat
+/// by the numbers that it has once the registry takes its definitions. `copies` says that the history has
+/// copied beats or gaps, and `last` is its last moment. Each chart of a row and each of its values is looked up
+/// once.
 pub fn judge_beat(
     alloc: Global,
     registry: &Registry,
@@ -109,7 +108,8 @@ pub fn judge_beat(
     number_content(alloc, registry, moment, beat)
 }
 
-/// What a beat without rows defines, by the numbers that it has once the registry takes it: nothing stands against that.
+/// What a beat without rows defines, by the numbers that it has once the registry takes it: nothing stands
+/// against that.
 pub fn number_definitions(
     alloc: Global,
     registry: &Registry,
@@ -147,8 +147,8 @@ pub fn number_definitions(
     definitions(alloc, &coming, defs)
 }
 
-/// The registry takes the definitions of a beat that it has nothing against, which is given by number. After an `Err` it
-/// is as it was.
+/// The registry takes the definitions of a beat that it has nothing against, which is given by number. After an
+/// `Err` it is as it was.
 pub fn define_beat(registry: &mut Registry, numbered: &NumberedBeat) -> Result<(), AllocError>
     requires judged { (beat : AnOpenBeat) × IsJudged registry.old beat numbered.now }
     requires charts { AreApart same_chart registry.old.charts }

@@ -4,9 +4,9 @@
 //! these, `points` works out the storage number of each dimension that a beat sets, by ascending series, and
 //! `apply` then takes the beat's rows. Both take a numbered beat, look nothing up by its text, and sort what
 //! the beat sets once; none goes through the whole registry. Both are proved to be what the definitions of
-//! `history` say of the open beat that was numbered, after every history whose values lie before the beat.
-//! The registry has the beat's own definitions already. What is taken is regular, as each beat is that a text of accepted lines
-//! closes, by the law `accepted_text_is_regular`.
+//! `history` say of the open beat that was numbered, after every history whose values lie before the beat. The
+//! registry has the beat's own definitions already. What is taken is regular, as each beat is that a text of
+//! accepted lines closes, by the law `accepted_text_is_regular`.
 //!
 //! The crate stands on the numbers of `chart_registry` and on the words of a row of `algorithms`.
 #![tactic(auto)]

@@ -64,10 +64,6 @@ pub changes-more : {T E : Type 0} (result : Result T E) (now between after : Def
 changes-more (Ok done) now between after changes changes' change is same added = λ before are. changes-same before between after (changes ++ change ∷ []) changes' same added (changes-push before now between changes change are is)
 changes-more (Err error) now between after changes changes' change is same added = tt
 
-pub changes-none : (before after : Definitions) (changes : List Change) → length changes ≡ 0 → AreChanges before changes after → after ≡ before
-changes-none before after [] none are = are
-changes-none before after (change ∷ changes) none are = absurd (omega (arith, none))
-
 -- ---- what a definition changes
 module _ (charts : List Chart) (dimensions : List Dimension) (registry : Definitions) (view : registry_of charts dimensions ≡ registry) where
   pub chart-change : (new : List Chart) (n : ℕ) (old def : ChartDef) → slice_get (defs charts) n ≡ Some old → def.id ≡ old.id → 0 < old.update_every → defs new ≡ set (defs charts) n def

@@ -1,7 +1,7 @@
 //! Definitions by number that are taken one after the other, with what each of them changes, so that all can be taken
 //! back.
 
-ghost use Rattle.std.specs.Prelude.{◌≡◌, ◌-◌, [], ◌∷◌, ◌++◌, length, true, OnOk, OnErr};
+ghost use Rattle.std.specs.Prelude.{◌≡◌, [], ◌∷◌, ◌++◌, true, OnOk, OnErr};
 ghost use Rattle.history.specs.Registry.{Registry as Definitions};
 ghost use Rattle.chart_registry.specs.Changes.{IsChange, AreChanges};
 ghost use Rattle.chart_registry.specs.Taking.{all_taken, takes_chart, takes_dimension, with_chart, with_charts, with_dimension, with_dimensions};
@@ -127,19 +127,7 @@ pub(crate) fn undo_all(registry: &mut Registry, mut changes: Vec<Change>)
     ensures { (before : Definitions) → AreChanges before changes.items registry.old
         → registry.new ≡ before }
 {
-    for _ in 0..changes.len() {
-        undo_last(registry, &mut changes);
-    }
-}
-
-/// Takes the last change back, if there is one.
-fn undo_last(registry: &mut Registry, changes: &mut Vec<Change>)
-    requires { (before : Definitions) × AreChanges before changes.old.items registry.old }
-    ensures left { (before : Definitions) → AreChanges before changes.old.items registry.old
-        → AreChanges before changes.new.items registry.new }
-    ensures fewer { length changes.new.items ≡ length changes.old.items - 1 }
-{
-    if let Some(change) = changes.pop() {
+    while let Some(change) = changes.pop() {
         registry.undo(change);
     }
 }

@@ -56,13 +56,12 @@ pub(crate) fn remove_last(charts: &mut IndexMap<String, Chart>, dimensions: &mut
     ensures last { (last : Kept) × (dimensions.old.items ≡ dimensions.new.items ++ last ∷ [])
         × LeavesSeries (rows charts.old) last.owner last.definition.def.id (rows charts.new) }
 {
-    if let Some(dimension) = dimensions.pop() {
-        charts::leave(
-            charts,
-            dimension.owner,
-            dimension.definition.def.id.as_str(),
-        );
-    }
+    let dimension = dimensions.pop().unwrap();
+    charts::leave(
+        charts,
+        dimension.owner,
+        dimension.definition.def.id.as_str(),
+    )
 }
 
 // Keeps a dimension with an id that none of its chart has yet. Its series is the next number.

@@ -10,7 +10,7 @@ use Rattle.checkpoint_body.specs.declared.body.RecordTier.{RecordTier}
 use Rattle.checkpoint_body.specs.declared.page.RecordPage.{RecordPage}
 use Rattle.checkpoint_body.specs.declared.page.SlotPage.{SlotPage}
 use Rattle.checkpoint_body.specs.declared.records.TheConstants.{MOST_RECORDS}
-use Rattle.checkpoint_body.specs.declared.slots.TheConstants.{MOST_SLOTS}
+use Rattle.checkpoint_body.specs.declared.slots.TheConstants.{MOST_EMPTY, MOST_SLOTS}
 use Rattle.checkpoint_body.specs.declared.span.Span.{Span}
 
 -- ---- extents
@@ -53,10 +53,10 @@ are_in_order [] = true
 are_in_order (one ∷ []) = true
 are_in_order (one ∷ next ∷ others) = is_before one next && are_in_order (next ∷ others)
 
--- after so many empty slots: at most six in a row are empty, and the last is not
+-- after so many empty slots: at most MOST_EMPTY in a row are empty, and the last is not
 abbrev pub spaced : ℕ → List ℕ → Bool
 spaced empty [] = empty == 0
-spaced empty (zero ∷ words) = nat_lt empty 6 && spaced (empty + 1) words
+spaced empty (zero ∷ words) = nat_lt empty MOST_EMPTY && spaced (empty + 1) words
 spaced empty (suc _ ∷ words) = spaced 0 words
 
 abbrev pub ends_in_time : Span → Bool
@@ -64,9 +64,9 @@ ends_in_time span = nat_lt span.end (2 ^ 32)
 
 abbrev pub is_slot_page : SlotPage → Bool
 is_slot_page page =
-    nat_le (length page.words) MOST_SLOTS && nat_lt 0 page.step && spaced 6 page.words && ends_in_time (slot_span page)
+    nat_le (length page.words) MOST_SLOTS && nat_lt 0 page.step && spaced MOST_EMPTY page.words && ends_in_time (slot_span page)
 
--- 1 to 73 records, of buckets of this width
+-- 1 to MOST_RECORDS records, of buckets of this width
 abbrev pub is_record_page : ℕ → RecordPage → Bool
 is_record_page width page =
     nat_lt 0 (length page.records) && nat_le (length page.records) MOST_RECORDS && page.step == width

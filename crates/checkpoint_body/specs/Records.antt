@@ -11,7 +11,7 @@ abbrev pub record_page_of : ℕ → BucketRecord → RecordPage
 record_page_of width item =
     record { series = item.series; first = item.bucket * width; step = width; records = item.value ∷ [] }
 
--- the record's bucket is the next one, and at most 73 records result
+-- the record's bucket is the next one, and at most MOST_RECORDS records result
 abbrev pub is_next : ℕ → RecordPage → BucketRecord → Bool
 is_next width page item =
     page.series == item.series && page.step == width

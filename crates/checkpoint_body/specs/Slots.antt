@@ -14,7 +14,7 @@ slot_page_of point =
 abbrev pub gaps : List ℕ
 gaps = 0 ∷ 1 ∷ 2 ∷ 3 ∷ 4 ∷ 5 ∷ 6 ∷ []
 
--- after so many empty slots the next slot is the point's, and at most 1,024 slots result
+-- after so many empty slots the next slot is the point's, and at most MOST_SLOTS slots result
 abbrev pub takes : SlotPage → Point → ℕ → Bool
 takes page point empty =
     page.series == point.series && page.step == point.step

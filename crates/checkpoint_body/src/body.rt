@@ -22,7 +22,7 @@ pub type ExtentList = ListOf<Extent>;
 /// The record of a bucket that is not over.
 #[derive(Clone, Copy, Debug, PartialEq, Eq)]
 pub struct OpenRecord {
-    /// The number of the series, below 65,536.
+    /// The number of the series, below `MOST_SERIES`.
     pub series: u32,
     /// The moment at which the bucket begins, in seconds.
     pub start: u32,

@@ -8,10 +8,10 @@ ghost use Rattle.checkpoint_body.specs.Body.{is_canonical};
 ghost use Rattle.checkpoint_body.specs.Canonical.{are_few, are_in_order, are_open, is_ascending, is_before, is_point_tier, is_record_page, is_record_tier, is_series, is_slot_page, point_count, record_count, record_span, slot_span, spaced};
 
 use crate::body::{Body, Extent, OpenRecord, PointTier, RecordTier};
-use crate::grid::moment_of;
+use crate::grid::{LAST_MOMENT, moment_of};
 use crate::page::{RecordPage, SlotPage};
 use crate::records::MOST_RECORDS;
-use crate::slots::MOST_SLOTS;
+use crate::slots::{MOST_EMPTY, MOST_SLOTS};
 use crate::span::Span;
 use tier_settings::{MOST_SERIES, Tier, are_tiers};
 
@@ -124,15 +124,15 @@ fn are_records_in_order(pages: &[RecordPage]) -> bool
     true
 }
 
-/// Whether at most six slots in a row are empty, and the first and the last are not.
+/// Whether at most `MOST_EMPTY` slots in a row are empty, and the first and the last are not.
 fn are_spaced(words: &[u32]) -> bool
-    ensures { result ≡ spaced 6 words.now }
+    ensures { result ≡ spaced MOST_EMPTY words.now }
 {
-    let mut empty = 6_u32;
+    let mut empty = MOST_EMPTY;
     for word in words {
         if *word != 0 {
             empty = 0;
-        } else if empty < 6 {
+        } else if empty < MOST_EMPTY {
             empty += 1;
         } else {
             return false;
@@ -148,7 +148,7 @@ fn is_slot_page(page: &SlotPage) -> bool
     words.len() <= MOST_SLOTS
         && 0 < page.step
         && are_spaced(words)
-        && slot_span(page).end <= u128::from(u32::MAX)
+        && slot_span(page).end <= u128::from(LAST_MOMENT)
 }
 
 fn is_record_page(width: u32, page: &RecordPage) -> bool
@@ -160,7 +160,7 @@ fn is_record_page(width: u32, page: &RecordPage) -> bool
         && page.step == width
         && 0 < page.step
         && page.first % page.step == 0
-        && record_span(page).end <= u128::from(u32::MAX)
+        && record_span(page).end <= u128::from(LAST_MOMENT)
 }
 
 /// How many slots are not empty.

@@ -12,7 +12,8 @@ pub struct SlotPage {
     pub first: u32,
     /// The seconds from a slot to the next.
     pub step: u32,
-    /// 1 to 1,024 slots, the first and the last not empty, and at most six empty ones in a row.
+    /// 1 to `MOST_SLOTS` slots, the first and the last not empty, and at most `MOST_EMPTY` empty ones in a
+    /// row.
     pub words: WordList,
 }
 
@@ -31,7 +32,7 @@ pub struct RecordPage {
     pub first: u32,
     /// The seconds of a bucket.
     pub step: u32,
-    /// 1 to 73 records.
+    /// 1 to `MOST_RECORDS` records.
     pub records: RecordList,
 }
 

@@ -57,7 +57,7 @@ fn add_record(width: u32, page: &mut RecordPage, item: &BucketRecord) -> Result<
 
 /// The pages of records in the order of their series, then buckets, of a tier of this width in
 /// seconds: a record goes into the last page, where that is of its series, the record's bucket is
-/// the next one and at most 73 records result. Else it begins a page.
+/// the next one and at most `MOST_RECORDS` records result. Else it begins a page.
 pub fn record_pages(
     alloc: Global,
     width: u32,

@@ -9,6 +9,9 @@ use std::alloc::{AllocError, Global};
 /// The most slots of a page.
 pub(crate) const MOST_SLOTS: usize = 1_024;
 
+/// The most empty slots in a row.
+pub(crate) const MOST_EMPTY: u32 = 6;
+
 /// How many slots may be empty between two points.
 const GAPS: [u8; 7] = [0, 1, 2, 3, 4, 5, 6];
 
@@ -77,7 +80,7 @@ fn add_point(page: &mut SlotPage, point: &Point) -> Result<bool, AllocError>
 
 /// The pages of points in the order of their series, then moments: a point goes into the last page,
 /// where that is of its series and step, the point is 1 to 7 steps past the last slot, and at most
-/// 1,024 slots result. Else it begins a page.
+/// `MOST_SLOTS` slots result. Else it begins a page.
 pub fn slot_pages(alloc: Global, points: &[Point]) -> Result<SlotPageList, AllocError>
     ensures { IfOk result (λ pages. pages ≡ slot_pages points.now) }
 {

@@ -1,4 +1,4 @@
-use Rattle.std.specs.Prelude.{◌≡◌, ℕ, ◌+◌, ◌-◌, ◌^◌, ◌<◌, min, List, [], ◌∷◌, Option, Some, None}
+use Rattle.std.specs.Prelude.{◌≡◌, ℕ, ◌+◌, ◌-◌, ◌^◌, ◌<◌, true, min, List, [], ◌∷◌, Option, Some, None, is_some}
 use Rattle.std.specs.Option.{option_map}
 use Rattle.history.specs.declared.fault.BlockFault.{BlockFault}
 use Rattle.history.specs.declared.fault.BlockFault.TheVariants.{Memory}
@@ -65,6 +65,12 @@ CountsPast line feed registry = CountsFor feed registry
 abbrev pub RefusedBy : Option BlockFault → BlockFault → Type 0
 RefusedBy reason Memory = reason ≡ None
 RefusedBy reason fault = reason ≡ Some fault
+
+-- There is the chart that a line's dimension is of, or the block that it closes.
+abbrev pub IsPlaced : Line → Feed → Type 0
+IsPlaced (line.Dimension def) feed = is_some feed.chart ≡ true
+IsPlaced line.End feed = is_some feed.block ≡ true
+IsPlaced line feed = Unit {0}
 
 -- a line that closes no beat
 abbrev pub ClosesNone : Line → Type 0

@@ -1,11 +1,11 @@
-ghost use Rattle.std.specs.Prelude.{◌≡◌, ◌<◌, ◌-◌, ◌^◌, ℕ, ℤ, Bool, Option, min, length, [], ◌∷◌, List, Some, None, true, false, MatchResult, IfSome, IfOk, OnOk, OnErr, IsErrOf};
+ghost use Rattle.std.specs.Prelude.{◌≡◌, ◌<◌, ◌-◌, ◌^◌, ℕ, ℤ, Bool, Option, min, length, [], ◌∷◌, List, Some, None, true, false, is_some, MatchResult, IfSome, IfOk, OnOk, OnErr, IsErrOf};
 ghost use Rattle.history.specs.Looking.{with_grid};
 ghost use Rattle.history.specs.Refusal.{refusal, is_unfinished};
 ghost use Rattle.history.specs.Registry.{Registry as Definitions};
 ghost use Rattle.history.specs.declared.fault.BlockFault.TheVariants.{Unfinished};
 ghost use Rattle.history.specs.declared.line.Line.{Line as ALine};
 ghost use Rattle.history.specs.declared.line.Line.TheVariants as line;
-ghost use Rattle.collect_block.specs.Feed.{IsFeedOf, Becomes, ClosesNone, CountsAt, CountsFor, CountsPast, RefusedBy, step_of, skips};
+ghost use Rattle.collect_block.specs.Feed.{IsFeedOf, IsPlaced, Becomes, ClosesNone, CountsAt, CountsFor, CountsPast, RefusedBy, step_of, skips};
 
 use crate::beat_tables::BeatTables;
 use crate::block::Block;
@@ -80,10 +80,10 @@ impl Feed {
     {
         match self.refusal(registry, last, copies, &line) {
             Some(fault) => Err(fault),
-            None => match self.take(registry, line) {
-                Ok(step) => Ok(step),
-                Err(_) => Err(BlockFault::Memory),
-            },
+            None => {
+                let step = self.take(registry, line)?;
+                Ok(step)
+            }
         }
     }
 
@@ -112,10 +112,10 @@ impl Feed {
     {
         match self.refusal(registry, last, copies, line) {
             Some(fault) => Err(fault),
-            None => match self.take_copy(registry, line) {
-                Ok(step) => Ok(step),
-                Err(_) => Err(BlockFault::Memory),
-            },
+            None => {
+                let step = self.take_copy(registry, line)?;
+                Ok(step)
+            }
         }
     }
 
@@ -151,9 +151,10 @@ impl Feed {
         copies: bool,
         line: &Line,
     ) -> Option<BlockFault>
-        ensures { (every : ℕ) (past : List ALine) → IsFeedOf self.now every past
+        ensures reason { (every : ℕ) (past : List ALine) → IsFeedOf self.now every past
             → CountsAt line.now self.now registry.now
             → result ≡ refusal registry.now every past copies last line.now }
+        ensures placed { result ≡ None → IsPlaced line.now self.now }
     {
         match line {
             Line::Chart(def) => self.chart_refusal(registry, def),
@@ -192,9 +193,10 @@ impl Feed {
     }
 
     fn dimension_refusal(&self, registry: &Registry, def: &DimDef) -> Option<BlockFault>
-        ensures { (every : ℕ) (past : List ALine) (copies : Bool) (last : ℕ)
+        ensures reason { (every : ℕ) (past : List ALine) (copies : Bool) (last : ℕ)
             → IsFeedOf self.now every past → CountsFor self.now registry.now
             → result ≡ refusal registry.now every past copies last (line.Dimension def.now) }
+        ensures placed { result ≡ None → is_some self.now.chart ≡ true }
     {
         if self.block.is_some() {
             return Some(BlockFault::OpenBlock);
@@ -241,9 +243,10 @@ impl Feed {
     }
 
     fn end_refusal(&self) -> Option<BlockFault>
-        ensures { (registry : Definitions) (every : ℕ) (past : List ALine) (copies : Bool)
+        ensures reason { (registry : Definitions) (every : ℕ) (past : List ALine) (copies : Bool)
             (last : ℕ) → IsFeedOf self.now every past
             → result ≡ refusal registry every past copies last line.End }
+        ensures placed { result ≡ None → is_some self.now.block ≡ true }
     {
         match &self.block {
             Some(_) => None,
@@ -278,6 +281,7 @@ impl Feed {
 
     // The same for a line that stays the caller's.
     fn take_copy(&mut self, registry: &Registry, line: &Line) -> Result<Step, AllocError>
+        requires { IsPlaced line.now self.old }
         ensures gives { IfOk result (λ step. (every : ℕ) (past : List ALine)
             → IsFeedOf self.old every past → step ≡ step_of every past line.now) }
         ensures taken { OnOk result (Becomes line.now self.old self.new) }
@@ -293,6 +297,7 @@ impl Feed {
     }
 
     fn take(&mut self, registry: &Registry, line: Line) -> Result<Step, AllocError>
+        requires { IsPlaced line self.old }
         ensures gives { IfOk result (λ step. (every : ℕ) (past : List ALine)
             → IsFeedOf self.old every past → step ≡ step_of every past line) }
         ensures taken { OnOk result (Becomes line self.old self.new) }
@@ -343,19 +348,14 @@ impl Feed {
     }
 
     fn define_dimension(&mut self, registry: &Registry, def: DimDef) -> Result<(), AllocError>
+        requires { is_some self.old.chart ≡ true }
         ensures taken { OnOk result (Becomes (line.Dimension def) self.old self.new) }
         ensures counts { OnOk result
             (CountsFor self.old registry.now → CountsFor self.new registry.now) }
         ensures err { OnErr result (self.new ≡ self.old) }
     {
-        let Some(chart) = &self.chart else {
-            return Ok(());
-        };
-        let dimension = OpenDim {
-            chart: chart.clone()?,
-            def,
-        };
-        self.beat.define_dimension(registry, dimension)
+        let chart = self.chart.as_ref().unwrap().clone()?;
+        self.beat.define_dimension(registry, OpenDim { chart, def })
     }
 
     fn begin(&mut self, registry: &Registry, chart: Text) -> Result<(), AllocError>
@@ -397,14 +397,13 @@ impl Feed {
     }
 
     fn end_block(&mut self) -> Result<(), AllocError>
+        requires { is_some self.old.block ≡ true }
         ensures taken { OnOk result (Becomes line.End self.old self.new) }
         ensures counts { OnOk result
             ((registry : Definitions) → CountsFor self.old registry → CountsFor self.new registry) }
         ensures err { OnErr result (self.new ≡ self.old) }
     {
-        let Some(block) = self.block.take() else {
-            return Ok(());
-        };
+        let block = self.block.take().unwrap();
         match self.beat.rows.add(block) {
             Ok(()) => Ok(()),
             Err(block) => {

@@ -5,6 +5,12 @@ use field_codec::ByteList;
 use history::NumberedBeat;
 use tier_settings::Settings;
 
+/// The most bytes of the entry of a numbered beat that keeps to the limits of a registry.
+pub const COLLECTED_LIMIT: usize = 33_579_025;
+
+/// The most bytes of the state of alarms in an entry.
+pub(crate) const HEALTH_LIMIT: usize = u32::MAX as usize;
+
 /// A beat that was copied from a child.
 #[derive(Debug, Drop)]
 pub struct Copied {

@@ -4,6 +4,7 @@ ghost use Rattle.history.specs.declared.numbered.NumberedBeat.{NumberedBeat};
 ghost use Rattle.entry_codec.specs.declared.entry.Entry.{Entry};
 ghost use Rattle.entry_codec.specs.declared.entry.Entry.TheVariants as entry;
 ghost use Rattle.entry_codec.specs.Entries.{entry_bytes, read_entry, HasSpelling, IsWithinLimits};
+ghost use Rattle.entry_codec.specs.declared.entry.TheConstants.{COLLECTED_LIMIT};
 
 /// The law of entries: a spelling reads as its entry, with nothing left, and what bytes read as has them
 /// as its spelling. So two entries never share a spelling.
@@ -22,5 +23,5 @@ pub fn entries_round_trip()
 /// It does nothing.
 pub fn entry_length_is_limited()
     ensures { (beat : NumberedBeat) → IsWithinLimits beat
-        → length (entry_bytes (entry.Collected beat)) ≤ 33579025 }
+        → length (entry_bytes (entry.Collected beat)) ≤ COLLECTED_LIMIT }
 {}

@@ -34,7 +34,7 @@ mod writing;
 
 pub use charts::{CopiedChart, CopiedChartList};
 pub use dimensions::{CopiedDimension, CopiedDimensionList};
-pub use entry::{Copied, Entry, Gap};
+pub use entry::{COLLECTED_LIMIT, Copied, Entry, Gap};
 pub use fault::EntryFault;
 pub use format::EntryFormat;
 pub use law::{entries_round_trip, entry_length_is_limited};

@@ -1,10 +1,10 @@
 ghost use Rattle.std.specs.Prelude.{◌≡◌, ◌<◌, ◌^◌, ◌++◌, ◌↔◌, true, length, Ok, Err, IsTrue, IfOk, OnOk, IsOkUnless};
-ghost use Rattle.std.specs.List.{flat_map, AllByRecursion};
+ghost use Rattle.std.specs.List.{flat_map};
 ghost use Rattle.entry_codec.specs.Entries.{collected_bytes, copied_bytes, entry_bytes, gap_bytes, is_collected_canonical, read_entry, settings_bytes, tier_bytes, HasSpelling, IsCollected, IsCopied, IsGap, IsSettings, IsShort, IsShortCollected, IsShortCopied, IsTier, IsWithinLimits};
 ghost use Rattle.entry_codec.specs.declared.entry.Entry.TheVariants as entry;
 
 use crate::canonical;
-use crate::entry::{Copied, Entry, Gap};
+use crate::entry::{Copied, Entry, Gap, HEALTH_LIMIT};
 use crate::fault::EntryFault;
 use field_codec::{ByteList, FieldFault, Writer, list};
 use history::NumberedBeat;
@@ -108,17 +108,10 @@ fn put_entry(entry: &Entry, writer: &mut Writer) -> Result<(), FieldFault>
 
 // Below, a number that is read is known to be in the range of its type.
 
-fn is_tier(tier: &Tier) -> bool
-    ensures { IsTrue result ↔ IsTier tier.now }
+fn know(tier: &Tier)
+    ensures { IsTier tier.now }
 {
     let (_items, _extents) = (tier.items, tier.extents);
-    true
-}
-
-fn are_tiers(tiers: &[Tier]) -> bool
-    ensures { IsTrue result ↔ AllByRecursion IsTier tiers.now }
-{
-    tiers.iter().all(is_tier)
 }
 
 fn is_settings(settings: &Settings) -> bool
@@ -126,7 +119,13 @@ fn is_settings(settings: &Settings) -> bool
 {
     let _id = settings.id;
     let tiers = settings.tiers.as_slice();
-    has_widths(tiers) && are_tiers(tiers)
+    let [second, minute, hour] = tiers else {
+        return false;
+    };
+    know(second);
+    know(minute);
+    know(hour);
+    has_widths(tiers)
 }
 
 fn is_collected(collected: &NumberedBeat) -> bool
@@ -161,7 +160,7 @@ fn is_short(entry: &Entry) -> bool
         Entry::Settings(settings) => is_settings(settings),
         Entry::Collected(collected) => is_collected(collected),
         Entry::Copied(copied) => is_copied(copied),
-        Entry::Health(bytes) => bytes.len() <= u32::MAX as usize,
+        Entry::Health(bytes) => bytes.len() <= HEALTH_LIMIT,
         Entry::Gap(gap) => is_gap(gap),
     }
 }
@@ -200,7 +199,8 @@ fn write_short_collected(alloc: Global, beat: &NumberedBeat) -> Result<ByteList,
 }
 
 /// The one spelling of the entry of a numbered beat whose lists are in the order of their numbers,
-/// and which keeps to the limits of a registry. It has at most 33,579,025 bytes.
+/// and which keeps to the limits of a registry. It has at most
+/// `COLLECTED_LIMIT` bytes.
 #[tactic(auto, unfolding(crate::specs::Entries::is_canonical))]
 pub fn write_collected(alloc: Global, beat: &NumberedBeat) -> Result<ByteList, AllocError>
     requires canonical { is_collected_canonical beat.now ≡ true }

@@ -4,6 +4,7 @@ use Rattle.host_model.specs.declared.file.File.{File}
 use Rattle.extent_file.specs.declared.field.Field.{Field}
 use Rattle.extent_file.specs.declared.entry.Entry.{Entry}
 use Rattle.extent_file.specs.declared.entry.Before.{Before}
+use Rattle.extent_file.specs.declared.sizes.TheConstants.{ENTRY_SIZE, HEAD_SIZE, MOST_ENTRIES, PLACE_LIMIT}
 use Rattle.extent_file.specs.Form.{Form, Rest, Next, StopsAt, Leads}
 use Rattle.extent_file.specs.Slot.{IsTierFile, tier_of, item_size, most_items}
 
@@ -24,7 +25,7 @@ after_entry tier entry = record { series = entry.series; free = last_of entry + 
 
 -- what stands before the first of so many entries
 abbrev pub at_first : ℕ → Before
-at_first pages = record { series = 0; free = 0; place = 24 + 24 * pages }
+at_first pages = record { series = 0; free = 0; place = HEAD_SIZE + ENTRY_SIZE * pages }
 
 -- so many items of a page end before 2^32
 abbrev pub in_time : ℕ → ℕ → ℕ
@@ -60,14 +61,14 @@ entry_form tier size left before next =
 
 -- so many entries after those that were read, and then the items up to the extent's size
 abbrev pub directory_form : ℕ → ℕ → ℕ → Before → List Entry → Form
-directory_form tier size zero before read = Rest (size - (24 + 24 * length read)) read
+directory_form tier size zero before read = Rest (size - (HEAD_SIZE + ENTRY_SIZE * length read)) read
 directory_form tier size (suc left) before read =
     entry_form tier size left before (λ entry. directory_form tier size left (after_entry tier entry) (read ++ entry ∷ []))
 
 -- how many pages an extent of this size has: none, or those for which there is room with one item each
 abbrev pub pages_field : ℕ → ℕ → ℕ → Field
 pages_field tier slot size =
-    between 4 (if nat_le size 24 then 0 else 1) ((min size slot - 24) / (24 + item_size tier))
+    between 4 (if nat_le size HEAD_SIZE then 0 else 1) ((min size slot - HEAD_SIZE) / (ENTRY_SIZE + item_size tier))
 
 -- an extent of this size in a slot of that size: `NDAEXT01`, the tier, the number of pages, the size, the
 -- directory and the items
@@ -76,13 +77,13 @@ extent_form tier slot size =
     Next (between 8 0x31305458_4541444E 0x31305458_4541444E) (λ _.
     Next (between 4 tier tier) (λ _.
     Next (pages_field tier slot size) (λ pages.
-    Next (between 8 (max size 24) (min size slot)) (λ _.
+    Next (between 8 (max size HEAD_SIZE) (min size slot)) (λ _.
     directory_form tier size pages (at_first pages) []))))
 
 -- the bytes begin with the head of an extent of this size, which says how many pages its directory has
 abbrev pub HasHead : ℕ → ℕ → ℕ → List ℕ → Type 0
 HasHead tier slot size bytes =
-    (pages : ℕ) × Leads (extent_form tier slot size) bytes 24 (directory_form tier size pages (at_first pages) [])
+    (pages : ℕ) × Leads (extent_form tier slot size) bytes HEAD_SIZE (directory_form tier size pages (at_first pages) [])
 
 -- the first byte of a file at which the form does not go on in it, from this start on, or the file's end
 abbrev pub IsBadAt : Form → ℕ → List ℕ → ℕ → Type 0
@@ -113,6 +114,6 @@ pub record Directory : Type 0 where
 -- it is one that `open` gives
 pub record IsDirectory (file : File) (start : ℕ) (entries : List Entry) : Type 0 where
   pub tier : IsTierFile file
-  pub begins : start < 2 ^ 40
-  pub count : length entries ≤ 2 ^ 22
+  pub begins : start < PLACE_LIMIT
+  pub count : length entries ≤ MOST_ENTRIES
   pub order : AreInOrder (tier_of file) (at_first (length entries)) entries

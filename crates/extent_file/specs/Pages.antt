@@ -6,6 +6,7 @@ use Rattle.page_buffer.specs.Records.{IsRecordPage}
 use Rattle.extent_file.specs.declared.entry.Entry.{Entry}
 use Rattle.extent_file.specs.declared.entry.Before.{Before}
 use Rattle.extent_file.specs.declared.page.Page.{Page}
+use Rattle.extent_file.specs.declared.sizes.TheConstants.{ENTRY_SIZE, HEAD_SIZE}
 use Rattle.extent_file.specs.declared.page.Page.TheVariants.{Slots, Records}
 use Rattle.extent_file.specs.Form.{Says}
 use Rattle.extent_file.specs.Slot.{item_size}
@@ -46,7 +47,7 @@ items_of (page ∷ pages) = (entry_of 0 page).count + items_of pages
 
 -- the length of the extent of these pages
 abbrev pub extent_size : ℕ → List Page → ℕ
-extent_size tier pages = 24 + 24 * length pages + items_of pages * item_size tier
+extent_size tier pages = HEAD_SIZE + ENTRY_SIZE * length pages + items_of pages * item_size tier
 
 -- the entries of pages whose items begin at a place
 abbrev pub entries_of : ℕ → ℕ → List Page → List Entry
@@ -61,5 +62,5 @@ Hold tier place (page ∷ pages) bytes =
 
 -- the bytes begin with the extent of the pages: its directory has their entries, and it holds their items
 pub record IsExtentOf (tier slot : ℕ) (pages : List Page) (bytes : List ℕ) : Type 0 where
-  pub says : Says (extent_form tier slot (extent_size tier pages)) bytes (entries_of tier (24 + 24 * length pages) pages)
-  pub items : Hold tier (24 + 24 * length pages) pages bytes
+  pub says : Says (extent_form tier slot (extent_size tier pages)) bytes (entries_of tier (HEAD_SIZE + ENTRY_SIZE * length pages) pages)
+  pub items : Hold tier (HEAD_SIZE + ENTRY_SIZE * length pages) pages bytes

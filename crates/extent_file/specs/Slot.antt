@@ -1,8 +1,10 @@
 -- The places of a tier's file: slots of one size, one after the other.
-use Rattle.std.specs.Prelude.{◌==◌, ℕ, ◌+◌, ◌-◌, ◌*◌, ◌≤◌, if◌then◌else◌}
-use Rattle.extent_file.specs.declared.sizes.TheConstants.{ENTRY_SIZE, HEAD_SIZE, MORE_ITEMS}
+use Rattle.std.specs.Prelude.{◌==◌, ℕ, ◌+◌, ◌-◌, ◌*◌, ◌/◌, ◌≤◌, if◌then◌else◌}
+use Rattle.extent_file.specs.declared.sizes.TheConstants.{ENTRY_SIZE, HEAD_SIZE, MORE_ITEMS, WORD_SIZE}
 use Rattle.host_model.specs.declared.file.File.{File}
 use Rattle.host_model.specs.Past.{file_number}
+use Rattle.page_buffer.specs.declared.records.TheConstants.{RECORD_SIZE}
+use Rattle.page_pool.specs.declared.node.TheConstants.{PAGE_SIZE}
 
 -- the file is that of a tier
 abbrev pub IsTierFile : File → Type 0
@@ -13,11 +15,11 @@ tier_of file = file_number file - 4
 
 -- how many bytes an item has: a word in tier 0, a record in another
 abbrev pub item_size : ℕ → ℕ
-item_size tier = if tier == 0 then 4 else 56
+item_size tier = if tier == 0 then WORD_SIZE else RECORD_SIZE
 
--- the most items of a page
+-- the most items of a page: those that fit its bytes
 abbrev pub most_items : ℕ → ℕ
-most_items tier = if tier == 0 then 1024 else 73
+most_items tier = PAGE_SIZE / item_size tier
 
 -- how many bytes a slot has, in a tier whose segments are sealed once they have so many items, or more
 abbrev pub slot_size : ℕ → ℕ → ℕ

@@ -1,7 +1,8 @@
-ghost use Rattle.std.specs.Prelude.{◌≡◌, ◌+◌, ◌*◌, ◌-◌, ◌^◌, ◌<◌, ◌≤◌, ℕ, List, [], length, take, IfOk, IsErrOf};
+ghost use Rattle.std.specs.Prelude.{◌≡◌, ◌+◌, ◌*◌, ◌-◌, ◌<◌, ◌≤◌, ℕ, List, [], length, take, IfOk, IsErrOf};
 ghost use Rattle.extent_file.specs.Form.{Form, Rest, StopsAt, Leads};
 ghost use Rattle.extent_file.specs.Slot.{item_size};
 ghost use Rattle.extent_file.specs.Directory.{at_first, directory_form, AreInOrder};
+ghost use Rattle.extent_file.specs.declared.sizes.TheConstants.{PLACE_LIMIT, START_LIMIT};
 
 use crate::entry::{Before, Entry, read_entry};
 use crate::fault::ExtentFault;
@@ -18,20 +19,20 @@ pub(crate) fn read_directory(
     size: u64,
     pages: u32,
 ) -> Result<ListOf<Entry>, ExtentFault>
-    requires start { start ≤ 2 ^ 36 }
-    requires size { size ≤ 2 ^ 40 }
-    requires fits { 24 + 24 * pages ≤ size }
-    requires inside { 24 ≤ length seen.now }
+    requires start { start ≤ START_LIMIT }
+    requires size { size ≤ PLACE_LIMIT }
+    requires fits { HEAD_SIZE + ENTRY_SIZE * pages ≤ size }
+    requires inside { HEAD_SIZE ≤ length seen.now }
     ensures order { IfOk result (λ entries. AreInOrder tier (at_first pages) entries
         × (length entries ≡ pages)) }
     ensures whole { IfOk result (λ entries. (bytes : List ℕ) (window : ℕ) (form : Form)
-        → seen.now ≡ take window bytes → 24 + 24 * pages ≤ window
-        → Leads form bytes 24 (directory_form tier size pages (at_first pages) [])
-        → Leads form bytes (24 + 24 * pages) (Rest (size - (24 + 24 * pages)) entries)) }
+        → seen.now ≡ take window bytes → HEAD_SIZE + ENTRY_SIZE * pages ≤ window
+        → Leads form bytes HEAD_SIZE (directory_form tier size pages (at_first pages) [])
+        → Leads form bytes (HEAD_SIZE + ENTRY_SIZE * pages) (Rest (size - (HEAD_SIZE + ENTRY_SIZE * pages)) entries)) }
     ensures bad { (place : ℕ) → IsErrOf result (ExtentFault.BadExtent place)
         → (bytes : List ℕ) (window : ℕ) (form : Form)
-        → seen.now ≡ take window bytes → 24 + 24 * pages ≤ window
-        → Leads form bytes 24 (directory_form tier size pages (at_first pages) [])
+        → seen.now ≡ take window bytes → HEAD_SIZE + ENTRY_SIZE * pages ≤ window
+        → Leads form bytes HEAD_SIZE (directory_form tier size pages (at_first pages) [])
         → (at : ℕ) × (place ≡ start + at) × StopsAt form bytes at }
     ensures disk { IsErrOf result ExtentFault.DiskFault → ⊥ }
 {

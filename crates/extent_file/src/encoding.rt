@@ -3,6 +3,7 @@ ghost use Rattle.extent_file.specs.Slot.{item_size};
 ghost use Rattle.extent_file.specs.Directory.{at_first};
 ghost use Rattle.extent_file.specs.Pages.{ArePages, IsExtentOf, extent_size, entries_of, items_of};
 ghost use Rattle.extent_file.specs.Writing.{entry_bytes, directory_bytes, head_bytes, AreItems};
+ghost use Rattle.extent_file.specs.declared.sizes.TheConstants.{SLOT_LIMIT};
 
 use crate::entry::Entry;
 use crate::fault::ExtentFault;
@@ -41,7 +42,7 @@ fn append_directory(
     first: u64,
     pages: &[Page],
 ) -> Result<(), AllocError>
-    requires { first + items_of pages.now * item_size tier ≤ 2 ^ 26 }
+    requires { first + items_of pages.now * item_size tier ≤ SLOT_LIMIT }
     ensures { OnOk result
         (out.new ≡ out.old ++ directory_bytes (entries_of tier first pages.now)) }
 {
@@ -81,7 +82,7 @@ fn append_all(
     pages: &[Page],
     items: &[u8],
 ) -> Result<(), AllocError>
-    requires room { first + items_of pages.now * item_size tier ≤ 2 ^ 26 }
+    requires room { first + items_of pages.now * item_size tier ≤ SLOT_LIMIT }
     requires count { length pages.now < 2 ^ 32 }
     ensures { OnOk result (out.new ≡ out.old ++ (head_bytes tier (length pages.now) size
         ++ (directory_bytes (entries_of tier first pages.now) ++ items.now))) }
@@ -100,7 +101,7 @@ pub(crate) fn encode(
 ) -> Result<ByteList, ExtentFault>
     requires pages { ArePages tier (at_first (length pages.now)) pages.now }
     requires fits { extent_size tier pages.now ≤ slot }
-    requires slot { slot ≤ 2 ^ 26 }
+    requires slot { slot ≤ SLOT_LIMIT }
     ensures extent { IfOk result (λ bytes. (more : List ℕ)
         → IsExtentOf tier slot pages.now (bytes ++ more)) }
     ensures size { IfOk result (λ bytes. length bytes ≡ extent_size tier pages.now) }

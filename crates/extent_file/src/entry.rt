@@ -5,6 +5,7 @@ ghost use Rattle.extent_file.specs.Form.{Form, GoesTo};
 ghost use Rattle.extent_file.specs.Slot.{item_size, most_items};
 ghost use Rattle.extent_file.specs.Directory.{between, last_of, bytes_of, after_entry, first_field, count_field, in_time, fewest, room, entry_form, Follows};
 ghost use Rattle.extent_file.specs.Find.{is_before};
+ghost use Rattle.extent_file.specs.declared.sizes.TheConstants.{ENTRY_SIZE, PLACE_LIMIT};
 
 use crate::field::{Field, read_at};
 use crate::sizes::{item_size, most_items};
@@ -61,7 +62,7 @@ impl Entry {
 
     /// What it leaves to the next one.
     pub(crate) fn after(&self, tier: u32) -> Before
-        requires { self.now.place ≤ 2 ^ 40 }
+        requires { self.now.place ≤ PLACE_LIMIT }
         ensures { result ≡ after_entry tier self.now }
     {
         Before {
@@ -118,7 +119,7 @@ fn in_time(first: u64, step: u64) -> u64
 
 /// The fewest items of a page.
 fn fewest(tier: u32, size: u64, left: u32, place: u64) -> u64
-    requires { size ≤ 2 ^ 40 }
+    requires { size ≤ PLACE_LIMIT }
     ensures { result ≡ fewest tier size left place }
 {
     if left != 0 {
@@ -130,7 +131,7 @@ fn fewest(tier: u32, size: u64, left: u32, place: u64) -> u64
 
 /// How many items a page may have.
 fn count_field(tier: u32, size: u64, left: u32, place: u64, first: u64, step: u64) -> Field
-    requires size { size ≤ 2 ^ 40 }
+    requires size { size ≤ PLACE_LIMIT }
     requires first { first ≤ TOP }
     requires step { 1 ≤ step }
     ensures value { result ≡ count_field tier size left place first step }
@@ -151,14 +152,14 @@ pub(crate) fn read_entry(
     left: u32,
     before: Before,
 ) -> Result<Entry, usize>
-    requires size { size ≤ 2 ^ 40 }
+    requires size { size ≤ PLACE_LIMIT }
     requires inside { at ≤ length seen.now }
     requires place { before.place ≤ size }
     ensures follows { IfOk result (λ entry. Follows tier before entry) }
-    ensures inside { IfOk result (λ entry. (at + 24 ≤ length seen.now)
+    ensures inside { IfOk result (λ entry. (at + ENTRY_SIZE ≤ length seen.now)
         × (entry.place + bytes_of tier entry ≤ size)) }
     ensures reaches { IfErr result (λ place. place ≤ length seen.now) }
-    ensures leads { (next : TheEntry → Form) → GoesTo seen.now at (at + 24)
+    ensures leads { (next : TheEntry → Form) → GoesTo seen.now at (at + ENTRY_SIZE)
         (entry_form tier size left before next) next result }
 {
     let series = read_at(seen, at, between(before.series, TOP))?;

@@ -1,4 +1,4 @@
-ghost use Rattle.std.specs.Prelude.{◌≡◌, ◌+◌, ◌^◌, ◌<◌, ◌≤◌, ℕ, length, take, drop, slice_get, Some, IfOk, IsErrOf};
+ghost use Rattle.std.specs.Prelude.{◌≡◌, ◌+◌, ◌*◌, ◌<◌, ◌≤◌, ℕ, length, take, drop, slice_get, Some, IfOk, IsErrOf};
 ghost use Rattle.host_model.specs.Images.{contents};
 ghost use Rattle.host_model.specs.Past.{of};
 ghost use Rattle.host_model.specs.Cause.{HasCause};
@@ -8,6 +8,7 @@ ghost use Rattle.extent_file.specs.Directory.{IsDirectory, bytes_of};
 ghost use Rattle.extent_file.specs.Find.{is_wanted};
 ghost use Rattle.extent_file.specs.Slot.{tier_of};
 ghost use Rattle.page_pool.specs.declared.node.TheConstants.{PAGE_SIZE};
+ghost use Rattle.extent_file.specs.declared.sizes.TheConstants.{PLACE_LIMIT};
 
 use crate::entry::Entry;
 use crate::fault::ExtentFault;
@@ -64,7 +65,7 @@ impl Extent {
         ensures entry { slice_get self.now.entries index ≡ Some result }
         ensures some { 0 < bytes_of (tier_of self.now.file) result }
         ensures most { bytes_of (tier_of self.now.file) result ≤ PAGE_SIZE }
-        ensures place { self.now.start + result.place < 2 ^ 41 }
+        ensures place { self.now.start + result.place < 2 * PLACE_LIMIT }
         ensures step { 0 < result.step }
         ensures count { 0 < result.count }
     {

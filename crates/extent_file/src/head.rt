@@ -1,8 +1,9 @@
-ghost use Rattle.std.specs.Prelude.{◌≡◌, ◌+◌, ◌*◌, ◌/◌, ◌-◌, ◌^◌, ◌<◌, ◌≤◌, ℕ, [], if◌then◌else◌, nat_le, min, max, length, IfOk, IfErr};
+ghost use Rattle.std.specs.Prelude.{◌≡◌, ◌+◌, ◌*◌, ◌/◌, ◌-◌, ◌<◌, ◌≤◌, ℕ, [], if◌then◌else◌, nat_le, min, max, length, IfOk, IfErr};
 ghost use Rattle.extent_file.specs.Fields.{IsField};
 ghost use Rattle.extent_file.specs.Form.{GoesTo};
 ghost use Rattle.extent_file.specs.Slot.{item_size};
 ghost use Rattle.extent_file.specs.Directory.{between, pages_field, at_first, directory_form, extent_form};
+ghost use Rattle.extent_file.specs.declared.sizes.TheConstants.{SLOT_LIMIT};
 
 use crate::entry::exactly;
 use crate::field::{Field, read_at};
@@ -13,7 +14,7 @@ pub(crate) const MARK: u64 = 0x3130_5458_4541_444E;
 
 /// How many pages an extent may have.
 fn pages_field(tier: u32, slot: u64, size: u64) -> Field
-    requires { slot ≤ 2 ^ 26 }
+    requires { slot ≤ SLOT_LIMIT }
     ensures value { result ≡ pages_field tier slot size }
     ensures form { IsField result }
 {
@@ -27,7 +28,7 @@ fn pages_field(tier: u32, slot: u64, size: u64) -> Field
 
 /// The sizes that an extent may say.
 fn size_field(slot: u64, size: u64) -> Field
-    ensures { result ≡ between 8 (max size 24) (min size slot) }
+    ensures { result ≡ between 8 (max size HEAD_SIZE) (min size slot) }
 {
     Field {
         width: 8,
@@ -39,11 +40,11 @@ fn size_field(slot: u64, size: u64) -> Field
 /// The number of pages of an extent of this size, of which at least the head was seen, or the place at which the
 /// form does not go on.
 pub(crate) fn read_head(seen: &[u8], tier: u32, slot: u64, size: u64) -> Result<u32, usize>
-    requires { slot ≤ 2 ^ 26 }
-    ensures fits { IfOk result (λ pages. (24 + pages * (24 + item_size tier) ≤ size)
-        × (24 ≤ length seen.now) × (size ≤ slot)) }
+    requires { slot ≤ SLOT_LIMIT }
+    ensures fits { IfOk result (λ pages. (HEAD_SIZE + pages * (ENTRY_SIZE + item_size tier) ≤ size)
+        × (HEAD_SIZE ≤ length seen.now) × (size ≤ slot)) }
     ensures reaches { IfErr result (λ place. place ≤ length seen.now) }
-    ensures leads { GoesTo seen.now 0 24 (extent_form tier slot size)
+    ensures leads { GoesTo seen.now 0 HEAD_SIZE (extent_form tier slot size)
         (λ pages. directory_form tier size pages (at_first pages) []) result }
 {
     read_at(seen, 0, exactly(8, MARK))?;

@@ -4,6 +4,7 @@ ghost use Rattle.extent_file.specs.declared.page.Page.{Page as APage};
 ghost use Rattle.extent_file.specs.Form.{Form, Says, StopsAt};
 ghost use Rattle.extent_file.specs.Directory.{bytes_of, extent_form};
 ghost use Rattle.extent_file.specs.Pages.{IsExtentOf, IsItemsOf, extent_size, entries_of};
+ghost use Rattle.extent_file.specs.declared.sizes.TheConstants.{ENTRY_SIZE, HEAD_SIZE};
 
 /// The law of extents: bytes say one list of entries or stop at one place, and never both. Of the extent of
 /// some pages, what is read are the pages' entries, and at the place of an entry stand the items of its
@@ -19,10 +20,10 @@ pub fn bytes_say_one_extent()
     ensures entries { (tier slot : ℕ) (pages : List APage) (bytes : List ℕ) (entries : List AnEntry)
         → IsExtentOf tier slot pages bytes
         → Says (extent_form tier slot (extent_size tier pages)) bytes entries
-        → entries ≡ entries_of tier (24 + 24 * length pages) pages }
+        → entries ≡ entries_of tier (HEAD_SIZE + ENTRY_SIZE * length pages) pages }
     ensures items { (tier slot : ℕ) (pages : List APage) (bytes : List ℕ) (index : ℕ)
         (page : APage) (entry : AnEntry) → IsExtentOf tier slot pages bytes
         → slice_get pages index ≡ Some page
-        → slice_get (entries_of tier (24 + 24 * length pages) pages) index ≡ Some entry
+        → slice_get (entries_of tier (HEAD_SIZE + ENTRY_SIZE * length pages) pages) index ≡ Some entry
         → IsItemsOf page (take (bytes_of tier entry) (drop entry.place bytes)) }
 {}

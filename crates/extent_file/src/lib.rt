@@ -30,5 +30,7 @@ pub use extent::Extent;
 pub use fault::ExtentFault;
 pub use law::bytes_say_one_extent;
 pub use page::{Page, PageList};
-pub use sizes::{MOST_ITEMS, MOST_SLOTS, size_of};
+pub use sizes::{
+    MOST_ENTRIES, MOST_ITEMS, MOST_SLOTS, PLACE_LIMIT, SLOT_LIMIT, START_LIMIT, size_of,
+};
 pub use writing::write_extent;

@@ -1,10 +1,11 @@
-ghost use Rattle.std.specs.Prelude.{◌≡◌, ◌+◌, ◌*◌, ◌-◌, ◌^◌, ◌<◌, ◌≤◌, ℕ, List, [], length, take, drop, IsErr, IfOk, IsErrOf};
+ghost use Rattle.std.specs.Prelude.{◌≡◌, ◌+◌, ◌*◌, ◌-◌, ◌<◌, ◌≤◌, ℕ, List, [], length, take, drop, IsErr, IfOk, IsErrOf};
 ghost use Rattle.host_model.specs.Images.{contents};
 ghost use Rattle.host_model.specs.Past.{of};
 ghost use Rattle.host_model.specs.Cause.{HasCause};
 ghost use Rattle.extent_file.specs.Form.{Form, Rest, Says, StopsAt, Leads};
 ghost use Rattle.extent_file.specs.Slot.{IsTierFile, tier_of, item_size, slot_size, slot_start};
 ghost use Rattle.extent_file.specs.Directory.{at_first, directory_form, extent_form, HasHead, IsBadAt, AreInOrder};
+ghost use Rattle.extent_file.specs.declared.sizes.TheConstants.{SLOT_LIMIT, START_LIMIT};
 
 use crate::directory::read_directory;
 use crate::entry::Entry;
@@ -69,12 +70,12 @@ fn open_head<H: Host>(
     slot: u64,
     size: u64,
 ) -> Result<u32, ExtentFault>
-    requires start { start ≤ 2 ^ 36 }
-    requires slot { slot ≤ 2 ^ 26 }
-    ensures fits { IfOk result (λ pages. (24 + pages * (24 + item_size tier) ≤ size)
+    requires start { start ≤ START_LIMIT }
+    requires slot { slot ≤ SLOT_LIMIT }
+    ensures fits { IfOk result (λ pages. (HEAD_SIZE + pages * (ENTRY_SIZE + item_size tier) ≤ size)
         × (size ≤ slot)) }
     ensures leads { IfOk result (λ pages. H.honest → Leads (extent_form tier slot size)
-        (drop start (contents (of file (H.seen host.old).past))) 24
+        (drop start (contents (of file (H.seen host.old).past))) HEAD_SIZE
         (directory_form tier size pages (at_first pages) [])) }
     ensures bad { (place : ℕ) → IsErrOf result (ExtentFault.BadExtent place) → H.honest
         → (at : ℕ) × (place ≡ start + at) × StopsAt (extent_form tier slot size)
@@ -105,19 +106,19 @@ fn open_directory<H: Host>(
     size: u64,
     pages: u32,
 ) -> Result<ListOf<Entry>, ExtentFault>
-    requires start { start ≤ 2 ^ 36 }
-    requires size { size ≤ 2 ^ 26 }
-    requires fits { 24 + 24 * pages ≤ size }
+    requires start { start ≤ START_LIMIT }
+    requires size { size ≤ SLOT_LIMIT }
+    requires fits { HEAD_SIZE + ENTRY_SIZE * pages ≤ size }
     ensures order { IfOk result (λ entries. AreInOrder tier (at_first pages) entries
         × (length entries ≡ pages)) }
     ensures whole { IfOk result (λ entries. H.honest → (form : Form)
-        → Leads form (drop start (contents (of file (H.seen host.old).past))) 24
+        → Leads form (drop start (contents (of file (H.seen host.old).past))) HEAD_SIZE
         (directory_form tier size pages (at_first pages) [])
         → Leads form (drop start (contents (of file (H.seen host.old).past)))
-        (24 + 24 * pages) (Rest (size - (24 + 24 * pages)) entries)) }
+        (HEAD_SIZE + ENTRY_SIZE * pages) (Rest (size - (HEAD_SIZE + ENTRY_SIZE * pages)) entries)) }
     ensures bad { (place : ℕ) → IsErrOf result (ExtentFault.BadExtent place) → H.honest
         → (form : Form)
-        → Leads form (drop start (contents (of file (H.seen host.old).past))) 24
+        → Leads form (drop start (contents (of file (H.seen host.old).past))) HEAD_SIZE
         (directory_form tier size pages (at_first pages) [])
         → (at : ℕ) × (place ≡ start + at)
         × StopsAt form (drop start (contents (of file (H.seen host.old).past))) at }

@@ -11,6 +11,18 @@ pub const MOST_ITEMS: u32 = 262_144;
 /// The most extents that a tier keeps. Its file has one slot more: they are numbered from 0 to this.
 pub const MOST_SLOTS: u32 = 1_024;
 
+/// The most bytes that a slot has.
+pub const SLOT_LIMIT: u64 = 1 << 26;
+
+/// The last byte of a file at which a slot may begin.
+pub const START_LIMIT: u64 = 1 << 36;
+
+/// The last byte of an extent that a directory is read up to.
+pub const PLACE_LIMIT: u64 = 1 << 40;
+
+/// The most entries of a directory.
+pub const MOST_ENTRIES: u32 = 1 << 22;
+
 /// How many bytes stand before the directory.
 pub(crate) const HEAD_SIZE: usize = 24;
 
@@ -49,8 +61,8 @@ pub(crate) fn most_items(tier: u32) -> u64
 
 /// How many bytes an extent of so many pages has, which have so many items together.
 pub fn size_of(tier: u32, pages: u64, items: u64) -> u64
-    requires { 24 + 24 * pages + items * item_size tier < 2 ^ 64 }
-    ensures { result ≡ 24 + 24 * pages + items * item_size tier }
+    requires { HEAD_SIZE + ENTRY_SIZE * pages + items * item_size tier < 2 ^ 64 }
+    ensures { result ≡ HEAD_SIZE + ENTRY_SIZE * pages + items * item_size tier }
 {
     HEAD_SIZE as u64 + ENTRY_SIZE as u64 * pages + items * item_size(tier)
 }
@@ -59,7 +71,7 @@ pub fn size_of(tier: u32, pages: u64, items: u64) -> u64
 pub(crate) fn slot_size(tier: u32, items: u32) -> u64
     requires { items ≤ MOST_ITEMS }
     ensures value { result ≡ slot_size tier items }
-    ensures most { result ≤ 2 ^ 26 }
+    ensures most { result ≤ SLOT_LIMIT }
 {
     HEAD_SIZE as u64 + (u64::from(items) + MORE_ITEMS) * (ENTRY_SIZE as u64 + item_size(tier))
 }
@@ -69,7 +81,7 @@ pub(crate) fn slot_start(tier: u32, items: u32, slot: u32) -> u64
     requires items { items ≤ MOST_ITEMS }
     requires slot { slot ≤ MOST_SLOTS }
     ensures value { result ≡ slot_start tier items slot }
-    ensures most { result ≤ 2 ^ 36 }
+    ensures most { result ≤ START_LIMIT }
 {
     u64::from(slot) * slot_size(tier, items)
 }

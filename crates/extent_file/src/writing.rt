@@ -122,9 +122,10 @@ fn put<H: Host>(host: &mut H, file: File, at: u64, bytes: &[u8]) -> Result<(), F
 }
 
 /// Writes the extent of pages into a slot of a tier's file, where the tier's segments are sealed once they
-/// have `items` items, or more, and gives its length. The pages are in order, and the extent fits its slot. Where the file ends
-/// before the slot, zeros are written up to it. At `Ok` it is synced. At every moment the extents in the
-/// other slots stay. After `DiskFault` anything may stand in the slot; after `Memory` nothing happened.
+/// have `items` items, or more, and gives its length. The pages are in order, and the extent fits its slot.
+/// Where the file ends before the slot, zeros are written up to it. At `Ok` it is synced. At every moment
+/// the extents in the other slots stay. After `DiskFault` anything may stand in the slot; after `Memory`
+/// nothing happened.
 pub fn write_extent<H: Host>(
     alloc: Global,
     host: &mut H,

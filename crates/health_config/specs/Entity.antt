@@ -62,7 +62,7 @@ alarm_of entity = record {
 
 -- ---- the name
 
--- 1 to 200 bytes without a blank
+-- 1 to NAME_LIMIT bytes without a blank
 abbrev pub name_read : List ℕ → Result (List ℕ) ValueFault
 name_read value =
     if length value == 0 then Err NoName

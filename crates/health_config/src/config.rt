@@ -57,7 +57,7 @@ impl Config {
         Ok(Config { text: kept, tally })
     }
 
-    /// The text that was read: at most 1,048,576 bytes.
+    /// The text that was read: at most `TEXT_LIMIT` bytes.
     pub fn text(&self) -> &[u8]
         ensures { result.now ≡ text_of self.now }
     {

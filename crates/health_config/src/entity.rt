@@ -20,7 +20,7 @@ use words::is_blank;
 /// An alarm of one chart, or a template of alarms of many.
 #[derive(Debug, Drop)]
 pub struct Entity {
-    /// 1 to 200 bytes without a blank.
+    /// 1 to `NAME_LIMIT` bytes without a blank.
     pub name: Text,
     /// It is for each chart of a context, and not for one chart.
     pub template: bool,
@@ -33,21 +33,21 @@ pub struct Entity {
     pub warn: Option<Expr>,
     /// When it is critical.
     pub crit: Option<Expr>,
-    /// How many seconds lie between two computations: up to 86,400, or up to 2,592,000 where its lookup
-    /// says it.
+    /// How many seconds lie between two computations: up to `LONGEST_EVERY`, or up to
+    /// `LONGEST_DURATION` where its lookup says it.
     pub every: u32,
     pub green: Option<Units>,
     pub red: Option<Units>,
     pub units: Text,
     pub info: Text,
     pub to: Text,
-    /// How many seconds a rise is delayed, up to 2,592,000.
+    /// How many seconds a rise is delayed, up to `LONGEST_DURATION`.
     pub up: u32,
-    /// How many seconds a fall is delayed, up to 2,592,000.
+    /// How many seconds a fall is delayed, up to `LONGEST_DURATION`.
     pub down: u32,
-    /// By what a delay grows, from 1 to 1,000 in ten-millionths.
+    /// By what a delay grows, from `LEAST_MULTIPLIER` to `GREATEST_MULTIPLIER`, in ten-millionths.
     pub multiplier: Units,
-    /// The most seconds that a delay grows to, up to 2,592,000.
+    /// The most seconds that a delay grows to, up to `LONGEST_DURATION`.
     pub max: Option<u32>,
     /// A fall to normal is not told.
     pub no_clear: bool,
@@ -68,7 +68,7 @@ fn has_blank(text: &str) -> bool
     text.as_bytes().iter().any(|byte| is_blank(*byte))
 }
 
-/// A name: 1 to 200 bytes without a blank.
+/// A name: 1 to `NAME_LIMIT` bytes without a blank.
 fn checked_name(alloc: Global, value: &str) -> Result<Text, ValueFault>
     ensures ok { IfOk result (λ name. spec.name_read value.now ≡ Ok name) }
     ensures fault { IfErr result (IsFaultFor (spec.name_read value.now)) }

@@ -19,10 +19,10 @@ pub enum ConfigFault {
     /// A duration of the line is none, or is out of its limits.
     #[error("line {0} has a bad duration")]
     BadDuration(u64),
-    /// The line begins the 4,097th entity.
+    /// The line begins an entity behind `ENTITY_LIMIT` others.
     #[error("line {0} begins one entity too many")]
     TooManyAlarms(u64),
-    /// The text has more than 1,048,576 bytes.
+    /// The text has more than `TEXT_LIMIT` bytes.
     #[error("a health text is too long")]
     TextTooLong,
     /// There was no memory.

@@ -1,6 +1,7 @@
 //! A text, cut into lines.
-ghost use Rattle.std.specs.Prelude.{◌≡◌, ◌<◌, ◌≤◌, ◌+◌, ◌^◌, ◌∷◌, ◌++◌, [], length, position, IfOk, OnOk, MatchOption};
+ghost use Rattle.std.specs.Prelude.{◌≡◌, ◌<◌, ◌≤◌, ◌+◌, ◌∷◌, ◌++◌, [], length, position, IfOk, OnOk, MatchOption};
 ghost use Rattle.health_config.specs.Lines as spec;
+ghost use Rattle.health_config.specs.declared.config.TheConstants.{TEXT_LIMIT};
 
 use fixed_num::{ByteList, ListOf};
 use std::alloc::{AllocError, Global};
@@ -85,7 +86,7 @@ fn take_part(
 
 /// The logical lines of a text.
 pub fn cut_lines(alloc: Global, text: &[u8]) -> Result<LineList, AllocError>
-    requires { length text.now ≤ 2 ^ 20 }
+    requires { length text.now ≤ TEXT_LIMIT }
     ensures { IfOk result (λ lines. lines ≡ spec.lines text.now) }
 {
     let mut lines = LineList::new(alloc);

@@ -26,9 +26,9 @@ pub enum Method {
 #[derive(Debug, Drop)]
 pub struct Lookup {
     pub method: Method,
-    /// How many seconds the span has, from 1 to 2,592,000.
+    /// How many seconds the span has, from 1 to `LONGEST_DURATION`.
     pub after: u32,
-    /// How many seconds before now it ends, up to 2,592,000.
+    /// How many seconds before now it ends, up to `LONGEST_DURATION`.
     pub before: u32,
     /// Values count without their sign.
     pub absolute: bool,

@@ -80,7 +80,7 @@ pub fn number(text: &[u8]) -> Result<Units, ValueFault>
     }
 }
 
-/// A number from 1 to 1,000, in ten-millionths.
+/// A number from `LEAST_MULTIPLIER` to `GREATEST_MULTIPLIER`, in ten-millionths.
 pub fn multiplier(text: &[u8]) -> Result<Units, ValueFault>
     ensures { result ≡ spec.multiplier text.now }
 {

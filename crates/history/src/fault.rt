@@ -1,3 +1,7 @@
+ghost use Rattle.std.specs.Prelude.{◌≡◌};
+ghost use Rattle.history.specs.declared.fault.BlockFault.TheVariants.{Memory};
+
+use std::alloc::AllocError;
 use thiserror::Error;
 
 /// Why a line may not stand where it does in a collector's text.
@@ -42,4 +46,12 @@ pub enum BlockFault {
     /// There was no memory.
     #[error("out of memory")]
     Memory,
+}
+
+impl From<AllocError> for BlockFault {
+    ghost from_gives = { λ _ fault. fault ≡ Memory };
+
+    fn from(_error: AllocError) -> BlockFault {
+        BlockFault::Memory
+    }
 }

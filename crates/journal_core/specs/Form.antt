@@ -1,6 +1,7 @@
-use Rattle.std.specs.Prelude.{◌≡◌, ◌≢◌, ℕ, ◌+◌, ◌^◌, ◌<◌, ◌≤◌, List, [], ◌∷◌, ◌++◌, length, take, codes}
+use Rattle.std.specs.Prelude.{◌≡◌, ◌≢◌, ℕ, ◌+◌, ◌<◌, ◌≤◌, List, [], ◌∷◌, ◌++◌, length, take, codes}
 use Rattle.std.specs.Int.{w32, w64, to_le_bytes}
 use Rattle.std.specs.List.{AllByRecursion}
+use Rattle.journal_core.specs.declared.journal.TheConstants.{RECORD_LIMIT}
 
 -- a journal begins with eight letters and its generation, the lowest byte first
 unfoldable pub header : ℕ → List ℕ
@@ -19,9 +20,9 @@ opened (body ∷ records) = 1 ∷ (length_field (length body) ++ (body ++ opened
 abbrev pub record_size : List ℕ → ℕ
 record_size body = 5 + length body
 
--- a record has at most 2^26 bytes
+-- a record has at most RECORD_LIMIT bytes
 abbrev pub IsShort : List ℕ → Type 0
-IsShort bytes = length bytes ≤ 2 ^ 26
+IsShort bytes = length bytes ≤ RECORD_LIMIT
 
 -- these bytes are a journal of this generation, and hold these records
 pub record StandsFor (generation : ℕ) (bytes : List ℕ) (records : List (List ℕ)) : Type 0 where

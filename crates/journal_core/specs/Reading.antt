@@ -1,7 +1,8 @@
-use Rattle.std.specs.Prelude.{◌≡◌, ◌≢◌, ℕ, ◌+◌, ◌-◌, ◌^◌, ◌<◌, ◌≤◌, List, ◌∷◌, ◌++◌, length, take, drop, Option, Some, None}
+use Rattle.std.specs.Prelude.{◌≡◌, ◌≢◌, ℕ, ◌+◌, ◌-◌, ◌<◌, ◌≤◌, List, ◌∷◌, ◌++◌, length, take, drop, Option, Some, None}
 use Rattle.std.specs.List.{AllByRecursion}
 use Rattle.journal_core.specs.declared.fault.JournalFault.{JournalFault}
 use Rattle.journal_core.specs.declared.fault.JournalFault.TheVariants.{DiskFault, NotAJournal, Memory}
+use Rattle.journal_core.specs.declared.journal.TheConstants.{RECORD_LIMIT}
 use Rattle.journal_core.specs.declared.reading.Next.{Next}
 use Rattle.journal_core.specs.declared.reading.Next.TheVariants.{Closed, Record, Broken}
 use Rattle.journal_core.specs.Form.{length_field, opened, IsShort}
@@ -34,13 +35,13 @@ IfNotAJournal Memory P = Unit {0}
 -- so the bytes from a gate on begin
 abbrev pub BeginsWith : List ℕ → Next → Type 0
 BeginsWith bytes Closed = (gate : ℕ) × (rest : List ℕ) × (bytes ≡ gate ∷ rest) × (gate ≢ 1)
-BeginsWith bytes (Record size) = (rest : List ℕ) × (bytes ≡ 1 ∷ (length_field size ++ rest)) × (size ≤ 2 ^ 26)
+BeginsWith bytes (Record size) = (rest : List ℕ) × (bytes ≡ 1 ∷ (length_field size ++ rest)) × (size ≤ RECORD_LIMIT)
 BeginsWith bytes (Broken place) = TailFails bytes place
 
 -- what was seen of so many bytes from a gate on
 abbrev pub SeenWithin : ℕ → Next → Type 0
 SeenWithin count Closed = 1 ≤ count
-SeenWithin count (Record size) = (5 ≤ count) × (size ≤ 2 ^ 26)
+SeenWithin count (Record size) = (5 ≤ count) × (size ≤ RECORD_LIMIT)
 SeenWithin count (Broken place) = place ≤ count
 
 -- the record that the bytes from a gate on begin with, if the gate is open

@@ -1,3 +1,4 @@
+use crate::journal::RECORD_LIMIT;
 use thiserror::Error;
 
 /// Why a journal was not prepared or opened.
@@ -21,6 +22,6 @@ pub enum AppendFault {
     #[error("the disk failed")]
     DiskFault,
     /// A record of more than `RECORD_LIMIT` bytes.
-    #[error("a record has more than 67108864 bytes")]
+    #[error("a record has more than {most} bytes", most = RECORD_LIMIT)]
     TooLong,
 }

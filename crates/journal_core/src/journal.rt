@@ -1,10 +1,10 @@
-ghost use Rattle.std.specs.Prelude.{◌≡◌, ℕ, ◌+◌, ◌^◌, ◌<◌, ◌≤◌, ◌↔◌, ◌⊎◌, List, [], ◌∷◌, ◌++◌, length, IfOk, IfErr, IsErrOf, OnOk, OnErr};
+ghost use Rattle.std.specs.Prelude.{◌≡◌, ℕ, ◌+◌, ◌<◌, ◌≤◌, ◌↔◌, ◌⊎◌, List, [], ◌∷◌, ◌++◌, length, IfOk, IfErr, IsErrOf, OnOk, OnErr};
 ghost use Rattle.host_model.specs.Images.{Synced, contents, greatest, IsImage};
 ghost use Rattle.host_model.specs.Past.{On, of};
 ghost use Rattle.host_model.specs.Cause.{HasCause};
 ghost use Rattle.host_model.specs.Moments.{Throughout, EveryImage, OnlyOn};
 ghost use Rattle.journal_core.specs.Form.{record_size, FailsAt};
-ghost use Rattle.journal_core.specs.declared.journal.TheConstants.{EMPTY_SIZE, RECORD_LIMIT};
+ghost use Rattle.journal_core.specs.declared.journal.TheConstants.{EMPTY_SIZE, JOURNAL_LIMIT, RECORD_LIMIT};
 
 use crate::fault::{AppendFault, JournalFault};
 use crate::reading::{RecordList, read_journal};
@@ -18,6 +18,9 @@ pub const EMPTY_SIZE: u64 = 17;
 
 /// The most bytes that a record may have.
 pub const RECORD_LIMIT: usize = 1 << 26;
+
+/// The most bytes that a journal may have before a record is added.
+pub const JOURNAL_LIMIT: u64 = 1 << 60;
 
 /// A journal in a file of a host, whose records have been read. It holds where the journal ends, and
 /// no record.
@@ -104,7 +107,7 @@ impl Journal {
     /// `DiskFault` each crash leaves the records with the new one or without it, as at every moment of
     /// the call, and the journal must be opened again.
     pub fn append<H: Host>(&mut self, host: &mut H, body: &[u8]) -> Result<(), AppendFault>
-        requires room { self.old.bytes ≤ 2 ^ 60 }
+        requires room { self.old.bytes ≤ JOURNAL_LIMIT }
         requires open { H.honest → (records : List (List ℕ))
             × IsOpen (of self.old.file (H.seen host.old).past) self.old records }
         ensures stored { OnOk result

@@ -25,7 +25,7 @@ mod start;
 mod store;
 
 pub use fault::{AppendFault, JournalFault};
-pub use journal::{EMPTY_SIZE, Journal, RECORD_LIMIT};
+pub use journal::{EMPTY_SIZE, JOURNAL_LIMIT, Journal, RECORD_LIMIT};
 pub use law::bytes_hold_one_journal;
 pub use reading::RecordList;
 pub use start::prepare;

@@ -1,4 +1,4 @@
-ghost use Rattle.std.specs.Prelude.{◌≡◌, ℕ, ◌+◌, ◌^◌, ◌<◌, ◌≤◌, List, [], ◌∷◌, ◌++◌, length, IsErr, OnOk};
+ghost use Rattle.std.specs.Prelude.{◌≡◌, ℕ, ◌+◌, ◌<◌, ◌≤◌, List, [], ◌∷◌, ◌++◌, length, IsErr, OnOk};
 ghost use Rattle.host_model.specs.Images.{contents, greatest, IsSynced};
 ghost use Rattle.host_model.specs.Past.{of};
 ghost use Rattle.host_model.specs.Cause.{HasCause};
@@ -6,7 +6,7 @@ ghost use Rattle.host_model.specs.Moments.{Throughout, EveryImage, OnlyOn};
 ghost use Rattle.journal_core.specs.Form.{opened, record_size, StandsFor};
 ghost use Rattle.journal_core.specs.Journal.{StandsForEither};
 ghost use Rattle.journal_core.specs.Store.{KeepsThrough, Stages};
-ghost use Rattle.journal_core.specs.declared.journal.TheConstants.{RECORD_LIMIT};
+ghost use Rattle.journal_core.specs.declared.journal.TheConstants.{JOURNAL_LIMIT, RECORD_LIMIT};
 
 use crate::form::length_bytes;
 use crate::gate::open_gate;
@@ -15,7 +15,7 @@ use host_model::{Failed, File, Host};
 /// Adds a record to the journal in a file, whose closed gate is at this place. At every moment a crash
 /// leaves the journal with the record or without it.
 pub(crate) fn store<H: Host>(host: &mut H, file: File, gate: u64, body: &[u8]) -> Result<(), Failed>
-    requires room { gate ≤ 2 ^ 60 }
+    requires room { gate ≤ JOURNAL_LIMIT }
     requires size { length body.now ≤ RECORD_LIMIT }
     requires stable { H.honest → IsSynced (of file (H.seen host.old).past) }
     requires inside { H.honest → gate < length (contents (of file (H.seen host.old).past)) }
@@ -46,7 +46,7 @@ pub(crate) fn store<H: Host>(host: &mut H, file: File, gate: u64, body: &[u8]) -
 
 /// Writes a record behind a closed gate, with a closed gate behind it, and syncs them.
 fn stage<H: Host>(host: &mut H, file: File, gate: u64, body: &[u8]) -> Result<(), Failed>
-    requires room { gate ≤ 2 ^ 60 }
+    requires room { gate ≤ JOURNAL_LIMIT }
     requires size { length body.now ≤ RECORD_LIMIT }
     requires stable { H.honest → IsSynced (of file (H.seen host.old).past) }
     requires inside { H.honest → gate < length (contents (of file (H.seen host.old).past)) }

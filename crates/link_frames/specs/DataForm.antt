@@ -17,7 +17,8 @@ use Rattle.replication.specs.Copies.{RisesFrom, latest}
 use Rattle.replication.specs.Names.{beat_moment, uses, words_of}
 
 -- ---- names
--- its id is that of a chart, its context has at most 200 bytes, and it has a value each 1 to 86,400 seconds
+-- its id is that of a chart, its context has at most TEXT_LIMIT bytes, and it has a value each 1 to
+-- UPDATE_EVERY_LIMIT seconds
 abbrev pub is_chart : ChartName → Bool
 is_chart chart = is_chart_id chart.id && nat_le (length chart.context) TEXT_LIMIT && nat_le 1 chart.update_every && nat_le chart.update_every UPDATE_EVERY_LIMIT
 

@@ -78,8 +78,8 @@ pub fn answers_are_frames()
         → data_of child floor names beats ask ≡ Some message → HasSpelling (frame.Data message) }
 {}
 
-/// The law of the length of a Data in form that has one beat, at most 4,096 charts and at most 65,536 dimensions: its
-/// body has at most 2^24 bytes. It does nothing.
+/// The law of the length of a Data in form that has one beat, at most `MOST_CHARTS` charts and at most
+/// `MOST_DIMENSIONS` dimensions: its body has at most `BODY_LIMIT` bytes. It does nothing.
 pub fn one_beat_fits_a_frame()
     ensures { (message : Data) → IsData message → length message.beats ≡ 1
         → length message.names.charts ≤ MOST_CHARTS

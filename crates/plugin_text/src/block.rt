@@ -21,10 +21,8 @@ pub fn read_begin(alloc: Global, fields: &Fields) -> Result<Line, LineFault>
 {
     let id = field(fields, 0);
     chart_part(id)?;
-    match Text::from_str(alloc, id) {
-        Ok(id) => Ok(Line::Begin(id)),
-        Err(_) => Err(LineFault::Memory),
-    }
+    let chart = Text::from_str(alloc, id)?;
+    Ok(Line::Begin(chart))
 }
 
 /// Reads the words of a SET line.
@@ -36,14 +34,12 @@ pub fn read_set(alloc: Global, fields: &Fields) -> Result<Line, LineFault>
     check_dimension_id(id)?;
     let value = set_value(field(fields, 1))?;
     let anomalous = field(fields, 2) == "A";
-    match Text::from_str(alloc, id) {
-        Ok(id) => Ok(Line::Set {
-            id,
-            value,
-            anomalous,
-        }),
-        Err(_) => Err(LineFault::Memory),
-    }
+    let id = Text::from_str(alloc, id)?;
+    Ok(Line::Set {
+        id,
+        value,
+        anomalous,
+    })
 }
 
 /// The value of a dimension, or `None` where the word is missing or empty.

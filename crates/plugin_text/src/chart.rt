@@ -29,10 +29,8 @@ pub fn read_chart(alloc: Global, fields: &Fields) -> Result<Line, LineFault>
     ensures fault { IfErr result (IsFaultFor (chart (texts fields.now.items))) }
 {
     let head = chart_head(fields)?;
-    match keep_chart(alloc, fields, &head) {
-        Ok(chart) => Ok(Line::Chart(chart)),
-        Err(_) => Err(LineFault::Memory),
-    }
+    let chart = keep_chart(alloc, fields, &head)?;
+    Ok(Line::Chart(chart))
 }
 
 fn chart_head<'a>(fields: &Fields<'a>) -> Result<ChartHead<'a>, LineFault>

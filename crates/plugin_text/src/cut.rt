@@ -32,8 +32,7 @@ fn hand_out(held: &mut ByteList, end: &[u8], out: &mut LineList) -> Result<(), L
     if held.len() + end.len() > LINE_LIMIT {
         return Err(LineFault::LineTooLong);
     }
-    let pushed = out.push_joined(held.as_slice(), end);
-    pushed.map_err(|_| LineFault::Memory)?;
+    out.push_joined(held.as_slice(), end)?;
     held.clear();
     Ok(())
 }
@@ -50,7 +49,8 @@ fn keep(held: &mut ByteList, more: &[u8]) -> Result<(), LineFault>
     if held.len() + more.len() > LINE_LIMIT {
         return Err(LineFault::LineTooLong);
     }
-    held.extend(more).map_err(|_| LineFault::Memory)
+    held.extend(more)?;
+    Ok(())
 }
 
 /// Hands out the lines of `held` and `piece` together, and leaves their rest in `held`. Only the first of them

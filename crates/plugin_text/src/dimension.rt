@@ -20,10 +20,8 @@ pub fn read_dimension(alloc: Global, fields: &Fields) -> Result<Line, LineFault>
     check_dimension_id(field(fields, 0))?;
     let multiplier = factor(field(fields, 3))?;
     let divisor = factor(field(fields, 4))?;
-    match keep_dimension(alloc, fields, multiplier, divisor) {
-        Ok(dimension) => Ok(Line::Dimension(dimension)),
-        Err(_) => Err(LineFault::Memory),
-    }
+    let dimension = keep_dimension(alloc, fields, multiplier, divisor)?;
+    Ok(Line::Dimension(dimension))
 }
 
 fn keep_dimension(

@@ -1,7 +1,11 @@
 ghost use Rattle.std.specs.Prelude.{◌≡◌};
 ghost use Rattle.plugin_text.specs.Fault.{fault_number};
+ghost use Rattle.plugin_text.specs.declared.fault.LineFault.TheVariants.{Memory, NotText, OpenQuote};
 
+use std::alloc::{AllocError, AllocFailed};
+use std::str::Utf8Error;
 use thiserror::Error;
+use words::OpenQuote;
 
 /// Why a line is refused, or no more lines are handed out.
 ///
@@ -46,5 +50,37 @@ impl LineFault {
             LineFault::LongId => Some(16),
             LineFault::Memory => None,
         }
+    }
+}
+
+impl From<AllocError> for LineFault {
+    ghost from_gives = { λ _ fault. fault ≡ Memory };
+
+    fn from(_error: AllocError) -> LineFault {
+        LineFault::Memory
+    }
+}
+
+impl<T: Drop> From<AllocFailed<T>> for LineFault {
+    ghost from_gives = { λ _ fault. fault ≡ Memory };
+
+    fn from(_error: AllocFailed<T>) -> LineFault {
+        LineFault::Memory
+    }
+}
+
+impl From<Utf8Error> for LineFault {
+    ghost from_gives = { λ _ fault. fault ≡ NotText };
+
+    fn from(_error: Utf8Error) -> LineFault {
+        LineFault::NotText
+    }
+}
+
+impl From<OpenQuote> for LineFault {
+    ghost from_gives = { λ _ fault. fault ≡ OpenQuote };
+
+    fn from(_error: OpenQuote) -> LineFault {
+        LineFault::OpenQuote
     }
 }

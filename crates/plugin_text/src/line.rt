@@ -25,10 +25,8 @@ pub fn read_line(alloc: Global, bytes: &[u8]) -> Result<Line, LineFault>
     ensures line { IfOk result (λ said. line bytes.now ≡ Ok said) }
     ensures fault { IfErr result (IsFaultFor (line bytes.now)) }
 {
-    match str::from_utf8(bytes) {
-        Ok(text) => read_text(alloc, text),
-        Err(_) => Err(LineFault::NotText),
-    }
+    let text = str::from_utf8(bytes)?;
+    read_text(alloc, text)
 }
 
 fn read_text(alloc: Global, line: &str) -> Result<Line, LineFault>
@@ -57,9 +55,7 @@ fn read_known(alloc: Global, keyword: Keyword, line: &mut Words) -> Result<Line,
     ensures fault { IfErr result (IsFaultFor (known_line line.old keyword)) }
 {
     let rest = line.rest();
-    let Ok(fields) = read_fields(line) else {
-        return Err(LineFault::OpenQuote);
-    };
+    let fields = read_fields(line)?;
     read_said(alloc, keyword, &fields, rest)
 }
 
@@ -81,9 +77,9 @@ fn read_said(
         Keyword::Flush => Ok(Line::Flush),
         Keyword::Disable => Ok(Line::Disable),
         Keyword::Moment => read_moment(fields),
-        Keyword::Query => match Text::from_str(alloc, rest) {
-            Ok(text) => Ok(Line::Query(text)),
-            Err(_) => Err(LineFault::Memory),
-        },
+        Keyword::Query => {
+            let text = Text::from_str(alloc, rest)?;
+            Ok(Line::Query(text))
+        }
     }
 }

@@ -1,5 +1,5 @@
 //! Lines of a text, kept in one buffer.
-ghost use Rattle.std.specs.Prelude.{◌≡◌, ◌==◌, ◌+◌, ◌<◌, ◌≤◌, ℕ, List, [], ◌∷◌, ◌++◌, length, drop, slice_index_or, IsErrOf, IfOk, IfErr, OnOk, OnErr, MatchOption};
+ghost use Rattle.std.specs.Prelude.{◌≡◌, ◌+◌, ◌<◌, ◌≤◌, ℕ, List, [], ◌∷◌, ◌++◌, length, drop, slice_index_or, IsErrOf, IfOk, IfErr, OnOk, OnErr, MatchOption};
 ghost use Rattle.std.specs.List.{AllPass};
 ghost use Rattle.plugin_text.specs.Fault.{EndsSplitting};
 ghost use Rattle.plugin_text.specs.LineList.{line_at, lines_at, AreWithin};
@@ -77,7 +77,8 @@ fn add_place(places: &mut Vec<Place>, place: Place) -> Result<(), LineFault>
     if place.end - place.start > LINE_LIMIT {
         return Err(LineFault::LineTooLong);
     }
-    places.push(place).map_err(|_| LineFault::Memory)
+    places.push(place)?;
+    Ok(())
 }
 
 /// Adds the places of the lines from `start` on, and gives where their rest begins.
@@ -126,13 +127,6 @@ impl LineList {
         self.places.len()
     }
 
-    /// Whether there is no line.
-    pub fn is_empty(&self) -> bool
-        ensures { result ≡ (length self.now == 0) }
-    {
-        self.places.is_empty()
-    }
-
     /// The line at a place, counted from 0.
     pub fn line(&self, at: usize) -> &[u8]
         requires { at < length self.now }
@@ -173,9 +167,7 @@ impl LineList {
             × BeginsWithLines text.now handed }
     {
         let start = self.bytes.len();
-        let Ok(()) = self.bytes.extend_from_slice(text) else {
-            return Err(LineFault::Memory);
-        };
+        self.bytes.extend_from_slice(text)?;
         let end = add_places(&mut self.places, &self.bytes, start)?;
         Ok(&text[end - start..])
     }

@@ -93,11 +93,4 @@ impl Splitter {
     {
         self.rest.as_slice()
     }
-
-    /// The refusal at which the splitter stopped.
-    pub fn refused(&self) -> Option<LineFault>
-        ensures { result ≡ self.now.refused }
-    {
-        self.refused
-    }
 }

@@ -15,7 +15,7 @@ ghost use Rattle.point_lines.specs.Steps.{one_if, skips, Stepped, StepsOr, Takes
 ghost use Rattle.point_lines.specs.Closing.{HasTaken, TellsOf};
 ghost use Rattle.point_lines.specs.Told.{told_at_end};
 
-use crate::stop::{Stop, beat_stop, block_stop, line_stop};
+use crate::stop::Stop;
 use crate::telling::push_points;
 use beat_entries::{BeatFault, define_beat, judge_beat};
 use beat_points::LastRows;
@@ -69,10 +69,8 @@ fn take_beat(
     ensures there { IfOk result (IsThere registry.new) }
 {
     let numbered = judge_beat(alloc, registry, false, last, moment, beat)?;
-    match define_beat(registry, &numbered) {
-        Ok(()) => Ok(numbered),
-        Err(_) => Err(BeatFault::Memory),
-    }
+    define_beat(registry, &numbered)?;
+    Ok(numbered)
 }
 
 impl Reader {
@@ -108,10 +106,8 @@ impl Reader {
         ensures { ReadsOrStops self.old bytes.now result self.new (string_bytes out.old)
             (string_bytes out.new) }
     {
-        match read_line(self.alloc, bytes) {
-            Ok(line) => self.take(line, out),
-            Err(fault) => Err(line_stop(fault)),
-        }
+        let line = read_line(self.alloc, bytes)?;
+        self.take(line, out)
     }
 
     /// Whether the text may end here, with these bytes behind its last line feed: `Unfinished` where the
@@ -144,13 +140,9 @@ impl Reader {
             (string_bytes out.new) }
     {
         let skipped = is_skipped(&line);
-        match self.feed.take_line(&self.registry, self.last, false, line) {
-            Ok(step) => {
-                self.count(skipped);
-                self.take_step(step, out)
-            }
-            Err(fault) => Err(block_stop(fault)),
-        }
+        let step = self.feed.take_line(&self.registry, self.last, false, line)?;
+        self.count(skipped);
+        self.take_step(step, out)
     }
 
     // Counts a line, and whether it says nothing to the agent.
@@ -188,10 +180,8 @@ impl Reader {
         ensures { StepsOr self.old (line.Moment moment) (step.Beat beat.now moment) result self.new
             (string_bytes out.old) (string_bytes out.new) }
     {
-        match take_beat(self.alloc, &mut self.registry, self.last, moment, beat) {
-            Ok(numbered) => self.take_numbered(&numbered, out),
-            Err(fault) => Err(beat_stop(fault)),
-        }
+        let numbered = take_beat(self.alloc, &mut self.registry, self.last, moment, beat)?;
+        self.take_numbered(&numbered, out)
     }
 
     // Takes a beat by number, whose definitions the registry has, and tells its points.
@@ -207,33 +197,27 @@ impl Reader {
             ≡ record self.old { last_rows = self.new.last_rows; last = beat.now.moment }) }
         ensures memory { IfErr result (λ fault. fault ≡ stop.Memory) }
     {
-        if self.tell(beat, out).is_err() {
-            return Err(Stop::Memory);
-        }
-        if self.last_rows.apply(&self.registry, beat).is_err() {
-            return Err(Stop::Memory);
-        }
+        self.tell(beat, out)?;
+        self.last_rows.apply(&self.registry, beat)?;
         self.last = beat.moment;
         Ok(())
     }
 
     // Tells the points of a beat by number, whose definitions the registry has.
-    fn tell(&self, beat: &NumberedBeat, out: &mut String) -> Result<(), AllocError>
+    fn tell(&self, beat: &NumberedBeat, out: &mut String) -> Result<(), Stop>
         requires { IsThere self.now.registry beat.now }
-        ensures { OnOk result (TellsOf self.now.registry self.now.last_rows beat.now
+        ensures told { OnOk result (TellsOf self.now.registry self.now.last_rows beat.now
             (string_bytes out.old) (string_bytes out.new)) }
+        ensures memory { IfErr result (λ fault. fault ≡ stop.Memory) }
     {
-        match self.last_rows.points(self.alloc, &self.registry, beat) {
-            Ok(points) => {
-                push_points(
-                    self.alloc,
-                    out,
-                    &self.registry,
-                    beat.moment,
-                    points.as_slice(),
-                )
-            }
-            Err(_) => Err(AllocError),
-        }
+        let points = self.last_rows.points(self.alloc, &self.registry, beat)?;
+        push_points(
+            self.alloc,
+            out,
+            &self.registry,
+            beat.moment,
+            points.as_slice(),
+        )?;
+        Ok(())
     }
 }

@@ -43,10 +43,9 @@ fn keep_column(found: &mut SeriesList, shown: bool, series: u32) -> Result<(), A
     ensures { OnOk result (found.new ≡ found.old ++ (if shown then series ∷ [] else [])) }
 {
     if shown {
-        found.push(series).map_err(|_| AllocError)
-    } else {
-        Ok(())
+        found.push(series)?;
     }
+    Ok(())
 }
 
 /// The dimensions that a query of a chart shows, by their numbers.

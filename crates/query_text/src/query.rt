@@ -19,7 +19,8 @@ fn keep_word(alloc: Global, found: &mut WordsList, word: &str) -> Result<(), All
     ensures { OnOk result (found.new ≡ found.old ++ word.now ∷ []) }
 {
     let word = Text::from_str(alloc, word)?;
-    found.push(word).map_err(|_| AllocError)
+    found.push(word)?;
+    Ok(())
 }
 
 /// The words of a text.

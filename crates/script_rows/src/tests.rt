@@ -70,11 +70,46 @@ fn is_sound_in(
     is_sound_part(alloc, &place, keep, part, crashes)
 }
 
-/// The same with each of what a crash may keep.
-fn is_sound_at(alloc: Global, number: usize, moment: u32, crashes: u64) -> Result<(), Fail> {
-    let place = Place::of(alloc, number, moment)?;
-    for keep in [Keep::All, Keep::None, Keep::Fill(255)] {
-        is_sound(alloc, &place, keep, crashes)?;
+/// The commands of the first half that store something and make few calls: number, the moment of a beat behind it, and
+/// how many crashes.
+const EARLY: [(usize, u32, u64); 14] = [
+    (0, 3410, 20),
+    (1, 3410, 7),
+    (2, 3410, 14),
+    (4, 3410, 21),
+    (6, 3412, 21),
+    (7, 3418, 21),
+    (10, 3420, 15),
+    (11, 3420, 15),
+    (12, 3430, 21),
+    (18, 3495, 51),
+    (23, 3490, 30),
+    (24, 3490, 36),
+    (26, 3490, 30),
+    (27, 3550, 36),
+];
+
+/// Those behind them.
+const MIDDLE: [(usize, u32, u64); 4] = [
+    (29, 3610, 36),
+    (31, 3610, 64),
+    (34, 3616, 61),
+    (38, 3626, 67),
+];
+
+/// Those behind these.
+const LATE: [(usize, u32, u64); 5] = [
+    (40, 3729, 97),
+    (42, 3788, 71),
+    (43, 3795, 60),
+    (44, 3849, 60),
+    (49, 7209, 83),
+];
+
+/// The same of each of these commands.
+fn are_sound(alloc: Global, commands: &[(usize, u32, u64)], keep: Keep) -> Result<(), Fail> {
+    for (number, moment, crashes) in commands {
+        is_sound_with(alloc, *number, *moment, keep, *crashes)?;
     }
     Ok(())
 }
@@ -228,118 +263,48 @@ fn a_beat_that_seals_fills(rt: HostRuntime) -> Result<(), Fail> {
 }
 
 #[test]
-fn command_0(rt: HostRuntime) -> Result<(), Fail> {
-    is_sound_at(rt.alloc(), 0, 3410, 20)
+fn the_early_commands_keep_all(rt: HostRuntime) -> Result<(), Fail> {
+    are_sound(rt.alloc(), EARLY.as_slice(), Keep::All)
 }
 
 #[test]
-fn command_1(rt: HostRuntime) -> Result<(), Fail> {
-    is_sound_at(rt.alloc(), 1, 3410, 7)
+fn the_early_commands_keep_none(rt: HostRuntime) -> Result<(), Fail> {
+    are_sound(rt.alloc(), EARLY.as_slice(), Keep::None)
 }
 
 #[test]
-fn command_2(rt: HostRuntime) -> Result<(), Fail> {
-    is_sound_at(rt.alloc(), 2, 3410, 14)
+fn the_early_commands_fill(rt: HostRuntime) -> Result<(), Fail> {
+    are_sound(rt.alloc(), EARLY.as_slice(), Keep::Fill(255))
 }
 
 #[test]
-fn command_4(rt: HostRuntime) -> Result<(), Fail> {
-    is_sound_at(rt.alloc(), 4, 3410, 21)
+fn the_middle_commands_keep_all(rt: HostRuntime) -> Result<(), Fail> {
+    are_sound(rt.alloc(), MIDDLE.as_slice(), Keep::All)
 }
 
 #[test]
-fn command_6(rt: HostRuntime) -> Result<(), Fail> {
-    is_sound_at(rt.alloc(), 6, 3412, 21)
+fn the_middle_commands_keep_none(rt: HostRuntime) -> Result<(), Fail> {
+    are_sound(rt.alloc(), MIDDLE.as_slice(), Keep::None)
 }
 
 #[test]
-fn command_7(rt: HostRuntime) -> Result<(), Fail> {
-    is_sound_at(rt.alloc(), 7, 3418, 21)
+fn the_middle_commands_fill(rt: HostRuntime) -> Result<(), Fail> {
+    are_sound(rt.alloc(), MIDDLE.as_slice(), Keep::Fill(255))
 }
 
 #[test]
-fn command_10(rt: HostRuntime) -> Result<(), Fail> {
-    is_sound_at(rt.alloc(), 10, 3420, 15)
+fn the_late_commands_keep_all(rt: HostRuntime) -> Result<(), Fail> {
+    are_sound(rt.alloc(), LATE.as_slice(), Keep::All)
 }
 
 #[test]
-fn command_11(rt: HostRuntime) -> Result<(), Fail> {
-    is_sound_at(rt.alloc(), 11, 3420, 15)
+fn the_late_commands_keep_none(rt: HostRuntime) -> Result<(), Fail> {
+    are_sound(rt.alloc(), LATE.as_slice(), Keep::None)
 }
 
 #[test]
-fn command_12(rt: HostRuntime) -> Result<(), Fail> {
-    is_sound_at(rt.alloc(), 12, 3430, 21)
-}
-
-#[test]
-fn command_18(rt: HostRuntime) -> Result<(), Fail> {
-    is_sound_at(rt.alloc(), 18, 3495, 51)
-}
-
-#[test]
-fn command_23(rt: HostRuntime) -> Result<(), Fail> {
-    is_sound_at(rt.alloc(), 23, 3490, 30)
-}
-
-#[test]
-fn command_24(rt: HostRuntime) -> Result<(), Fail> {
-    is_sound_at(rt.alloc(), 24, 3490, 36)
-}
-
-#[test]
-fn command_26(rt: HostRuntime) -> Result<(), Fail> {
-    is_sound_at(rt.alloc(), 26, 3490, 30)
-}
-
-#[test]
-fn command_27(rt: HostRuntime) -> Result<(), Fail> {
-    is_sound_at(rt.alloc(), 27, 3550, 36)
-}
-
-#[test]
-fn command_29_keeps_all(rt: HostRuntime) -> Result<(), Fail> {
-    is_sound_with(rt.alloc(), 29, 3610, Keep::All, 36)
-}
-
-#[test]
-fn command_29_keeps_none(rt: HostRuntime) -> Result<(), Fail> {
-    is_sound_with(rt.alloc(), 29, 3610, Keep::None, 36)
-}
-
-#[test]
-fn command_29_fills(rt: HostRuntime) -> Result<(), Fail> {
-    is_sound_with(rt.alloc(), 29, 3610, Keep::Fill(255), 36)
-}
-
-#[test]
-fn command_31_keeps_all(rt: HostRuntime) -> Result<(), Fail> {
-    is_sound_with(rt.alloc(), 31, 3610, Keep::All, 64)
-}
-
-#[test]
-fn command_31_keeps_none(rt: HostRuntime) -> Result<(), Fail> {
-    is_sound_with(rt.alloc(), 31, 3610, Keep::None, 64)
-}
-
-#[test]
-fn command_31_fills(rt: HostRuntime) -> Result<(), Fail> {
-    is_sound_with(rt.alloc(), 31, 3610, Keep::Fill(255), 64)
-}
-
-#[test]
-fn command_34_keeps_all(rt: HostRuntime) -> Result<(), Fail> {
-    is_sound_with(rt.alloc(), 34, 3616, Keep::All, 61)
-}
-
-#[test]
-fn command_34_keeps_none(rt: HostRuntime) -> Result<(), Fail> {
-    is_sound_with(rt.alloc(), 34, 3616, Keep::None, 61)
-}
-
-#[test]
-fn command_34_fills(rt: HostRuntime) -> Result<(), Fail> {
-    is_sound_with(rt.alloc(), 34, 3616, Keep::Fill(255), 61)
+fn the_late_commands_fill(rt: HostRuntime) -> Result<(), Fail> {
+    are_sound(rt.alloc(), LATE.as_slice(), Keep::Fill(255))
 }
 
 #[test]
@@ -355,81 +320,6 @@ fn command_37_keeps_none(rt: HostRuntime) -> Result<(), Fail> {
 #[test]
 fn command_37_fills(rt: HostRuntime) -> Result<(), Fail> {
     is_sound_with(rt.alloc(), 37, 3619, Keep::Fill(255), 525)
-}
-
-#[test]
-fn command_38_keeps_all(rt: HostRuntime) -> Result<(), Fail> {
-    is_sound_with(rt.alloc(), 38, 3626, Keep::All, 67)
-}
-
-#[test]
-fn command_38_keeps_none(rt: HostRuntime) -> Result<(), Fail> {
-    is_sound_with(rt.alloc(), 38, 3626, Keep::None, 67)
-}
-
-#[test]
-fn command_38_fills(rt: HostRuntime) -> Result<(), Fail> {
-    is_sound_with(rt.alloc(), 38, 3626, Keep::Fill(255), 67)
-}
-
-#[test]
-fn command_40_keeps_all(rt: HostRuntime) -> Result<(), Fail> {
-    is_sound_with(rt.alloc(), 40, 3729, Keep::All, 97)
-}
-
-#[test]
-fn command_40_keeps_none(rt: HostRuntime) -> Result<(), Fail> {
-    is_sound_with(rt.alloc(), 40, 3729, Keep::None, 97)
-}
-
-#[test]
-fn command_40_fills(rt: HostRuntime) -> Result<(), Fail> {
-    is_sound_with(rt.alloc(), 40, 3729, Keep::Fill(255), 97)
-}
-
-#[test]
-fn command_42_keeps_all(rt: HostRuntime) -> Result<(), Fail> {
-    is_sound_with(rt.alloc(), 42, 3788, Keep::All, 71)
-}
-
-#[test]
-fn command_42_keeps_none(rt: HostRuntime) -> Result<(), Fail> {
-    is_sound_with(rt.alloc(), 42, 3788, Keep::None, 71)
-}
-
-#[test]
-fn command_42_fills(rt: HostRuntime) -> Result<(), Fail> {
-    is_sound_with(rt.alloc(), 42, 3788, Keep::Fill(255), 71)
-}
-
-#[test]
-fn command_43_keeps_all(rt: HostRuntime) -> Result<(), Fail> {
-    is_sound_with(rt.alloc(), 43, 3795, Keep::All, 60)
-}
-
-#[test]
-fn command_43_keeps_none(rt: HostRuntime) -> Result<(), Fail> {
-    is_sound_with(rt.alloc(), 43, 3795, Keep::None, 60)
-}
-
-#[test]
-fn command_43_fills(rt: HostRuntime) -> Result<(), Fail> {
-    is_sound_with(rt.alloc(), 43, 3795, Keep::Fill(255), 60)
-}
-
-#[test]
-fn command_44_keeps_all(rt: HostRuntime) -> Result<(), Fail> {
-    is_sound_with(rt.alloc(), 44, 3849, Keep::All, 60)
-}
-
-#[test]
-fn command_44_keeps_none(rt: HostRuntime) -> Result<(), Fail> {
-    is_sound_with(rt.alloc(), 44, 3849, Keep::None, 60)
-}
-
-#[test]
-fn command_44_fills(rt: HostRuntime) -> Result<(), Fail> {
-    is_sound_with(rt.alloc(), 44, 3849, Keep::Fill(255), 60)
 }
 
 #[test]
@@ -505,21 +395,6 @@ fn command_46_fills_fourth(rt: HostRuntime) -> Result<(), Fail> {
 #[test]
 fn command_46_fills_last(rt: HostRuntime) -> Result<(), Fail> {
     is_sound_in(rt.alloc(), 46, 3855, Keep::Fill(255), LAST, 194)
-}
-
-#[test]
-fn command_49_keeps_all(rt: HostRuntime) -> Result<(), Fail> {
-    is_sound_with(rt.alloc(), 49, 7209, Keep::All, 83)
-}
-
-#[test]
-fn command_49_keeps_none(rt: HostRuntime) -> Result<(), Fail> {
-    is_sound_with(rt.alloc(), 49, 7209, Keep::None, 83)
-}
-
-#[test]
-fn command_49_fills(rt: HostRuntime) -> Result<(), Fail> {
-    is_sound_with(rt.alloc(), 49, 7209, Keep::Fill(255), 83)
 }
 
 #[test]

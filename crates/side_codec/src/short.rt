@@ -6,6 +6,7 @@ ghost use Rattle.side_codec.specs.Sides.{IsShort};
 use crate::definitions;
 use crate::format::SideFormat;
 use crate::last_point::LastPoint;
+use crate::limits::MOST_GAPS;
 use crate::side::Side;
 use field_codec::list::are_short;
 
@@ -21,12 +22,12 @@ fn are_lasts_for(side: &Side) -> bool
 /// Whether a side has a spelling: its charts and dimensions are few, at the places of their numbers
 /// and within their limits, and each dimension is of a chart that is there; there is a moment for
 /// each chart, and a row and a point, or none, for each series; the words of points are storage
-/// numbers; the alarms have a spelling, and there are fewer than 2^32 gaps.
+/// numbers; the alarms have a spelling, and there are at most `MOST_GAPS` gaps.
 pub fn is_short(side: &Side) -> bool
     ensures { IsTrue result ↔ IsShort side.now }
 {
     definitions::are_registered(side.charts.as_slice(), side.dimensions.as_slice())
         && are_lasts_for(side)
         && alarm_events::is_short(&side.alarms)
-        && side.gaps.len() <= u32::MAX as usize
+        && side.gaps.len() <= MOST_GAPS
 }

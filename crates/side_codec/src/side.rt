@@ -21,11 +21,11 @@ pub type MomentList = ListOf<u32>;
 #[derive(Debug, Drop)]
 pub struct Side {
     pub role: SideRole,
-    /// The charts, each at the place of its number: at most 4,096, which keep the limits of
-    /// definitions.
+    /// The charts, each at the place of its number: at most `MOST_CHARTS`, which keep the limits
+    /// of definitions.
     pub charts: ChartList,
-    /// The dimensions, each at the place of its series, of charts that are there: at most 65,536,
-    /// which keep the limits of definitions.
+    /// The dimensions, each at the place of its series, of charts that are there: at most
+    /// `MOST_DIMENSIONS`, which keep the limits of definitions.
     pub dimensions: DimensionList,
     /// The last moment of each chart at which it had a row or a copied point, in seconds, or 0.
     pub chart_moments: MomentList,
@@ -34,7 +34,7 @@ pub struct Side {
     /// The last point of each series.
     pub last_points: LastPointList,
     pub alarms: KeptAlarms,
-    /// The spans that were not copied: fewer than 2^32.
+    /// The spans that were not copied: at most `MOST_GAPS`.
     pub gaps: GapSpanList,
 }
 

@@ -13,6 +13,7 @@ use store_core::{
 };
 
 mod crash;
+mod left;
 mod plain;
 mod random;
 mod view;

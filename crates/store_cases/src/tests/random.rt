@@ -141,7 +141,7 @@ fn replay_next(store: &mut Store, host: &MemoryHost) -> Result<bool, StoreFault>
 }
 
 /// Opens the database, and replays the beats since its checkpoint.
-fn open_whole(alloc: Global, host: &mut MemoryHost) -> Result<Store, StoreFault>
+pub fn open_whole(alloc: Global, host: &mut MemoryHost) -> Result<Store, StoreFault>
     ensures ready { IfOk result (IsReadyOn host.new) }
     ensures replayed { IfOk result IsReplayed }
 {

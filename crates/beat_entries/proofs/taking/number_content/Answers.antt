@@ -1,4 +1,5 @@
 use Rattle.std.proofs.Common.{◌≡◌, None, sym, subst, ◌∙◌}
+use Rattle.std.proofs.lemmas.Result.{err_from_is_err_and}
 use Rattle.history.specs.Registry.{Registry}
 use Rattle.beat_entries.specs.Defined.{IsDefinedIn}
 use Rattle.beat_entries.specs.Rules.{content_refusal}
@@ -27,9 +28,11 @@ number-requires-clause-defined c =
     subst (λ (r : Registry). IsDefinedIn r beat) (same-after registry beat c.new-coming.result c.new-coming.ensures.registry c.new-coming.ensures.beat)
     (tested-defined registry beat c.requires.is_open c.requires.charts c.requires.dimensions (tested registry c.args.moment beat free))
 
-pub returns-in-Ok-clause-judged : goal.returns-in-Ok-clause-judged
-returns-in-Ok-clause-judged c =
-    (λ i. content_refusal (sym c.new-coming.ensures.registry i) c.args.moment (sym c.new-coming.ensures.beat i)) ∙ sym c.content_refusal.ensures ∙ c.in_default-content_refusal.is
+pub returns-in_err-numbered-clause-judged : goal.returns-in_err-numbered-clause-judged
+returns-in_err-numbered-clause-judged c =
+    let error = err_from_is_err_and c.from_residual.result c.from_residual.ensures.1 in
+    rw (error.1, error.2)
+    ((λ i. content_refusal (sym c.new-coming.ensures.registry i) c.args.moment (sym c.new-coming.ensures.beat i)) ∙ sym c.content_refusal.ensures ∙ c.in_default-content_refusal.is)
 
 pub returns-clause-judged : goal.returns-clause-judged
 returns-clause-judged c =

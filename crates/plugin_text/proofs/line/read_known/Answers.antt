@@ -8,10 +8,10 @@ use Rattle.plugin_text.proofs.line.read_known.Goals as goal
 
 pub returns-clause-line : goal.returns-clause-line
 returns-clause-line c =
-    let same = known_line-kept c.args.keyword c.rest-rest.result.now c.args.line.now (texts c.in-Ok.fields.items) c.in-Ok.ensures.words c.in-Ok.ensures.closed c.rest-rest.ensures in
+    let same = known_line-kept c.args.keyword c.rest-rest.result.now c.args.line.now (texts c.in_ok-fields.fields.items) c.in_ok-fields.ensures.words c.in_ok-fields.ensures.closed c.rest-rest.ensures in
     subst (λ (answer : Result Line LineFault). IfOk c.read_said.result (λ said. answer ≡ Ok said)) same c.read_said.ensures.line
 
 pub returns-clause-fault : goal.returns-clause-fault
 returns-clause-fault c =
-    let same = known_line-kept c.args.keyword c.rest-rest.result.now c.args.line.now (texts c.in-Ok.fields.items) c.in-Ok.ensures.words c.in-Ok.ensures.closed c.rest-rest.ensures in
+    let same = known_line-kept c.args.keyword c.rest-rest.result.now c.args.line.now (texts c.in_ok-fields.fields.items) c.in_ok-fields.ensures.words c.in_ok-fields.ensures.closed c.rest-rest.ensures in
     subst (λ (answer : Result Line LineFault). IfErr c.read_said.result (IsFaultFor answer)) same c.read_said.ensures.fault
