@@ -386,6 +386,10 @@ module _ (honest : Type 0) (host host' : Seen) (agent agent' : AgentState) (feed
 abbrev pub short_of : AgentState → AgentState
 short_of agent = record agent { fault = Some why.Memory }
 
+-- an agent that was going, once it has noted no cause
+pub going-on : (agent : AgentState) → agent.fault ≡ None → agent ≡ record agent { fault = None }
+going-on agent going = ap (λ (fault : Option Why). record agent { fault = fault }) going
+
 module _ (honest : Type 0) (host : Seen) (agent : AgentState) (feed feed' : Feed) (line : Line) (fed : IsFed feed) (same : feed' ≡ feed) where
   abbrev failed : AgentFault → Result Said AgentFault
   failed fault = Err fault

@@ -44,10 +44,10 @@ use crate::replaying::{open_store, replay_all};
 use crate::reply::{Reply, Said};
 use crate::side::{read_left, write_left};
 use alarm_core::Log;
-use beat_entries::{BeatFault, define_beat, judge_beat};
+use beat_entries::{define_beat, judge_beat};
 use chart_registry::Registry;
 use collect_block::{Feed, Step};
-use health_config::{Config, ConfigFault};
+use health_config::Config;
 use history::{BlockFault, Line, NumberedBeat, OpenBeat};
 use host_model::Host;
 use std::alloc::Global;
@@ -307,10 +307,10 @@ impl Agent {
             beat,
         ) {
             Ok(numbered) => numbered,
-            Err(BeatFault::Refused(reason)) => return Err(AgentFault::Refused(reason)),
-            Err(BeatFault::Memory) => {
-                self.fault = Some(Why::Memory);
-                return Err(AgentFault::Memory);
+            Err(fault) => {
+                let fault = AgentFault::from(fault);
+                self.fault = fault.cause();
+                return Err(fault);
             }
         };
         match self.add_beat(host, &numbered) {
@@ -447,11 +447,11 @@ impl Agent {
         }
         let config = match Config::read(self.alloc, text) {
             Ok(config) => config,
-            Err(ConfigFault::Memory) => {
-                self.fault = Some(Why::Memory);
-                return Err(AgentFault::Memory);
+            Err(fault) => {
+                let fault = AgentFault::from(fault);
+                self.fault = fault.cause();
+                return Err(fault);
             }
-            Err(fault) => return Err(AgentFault::Health(fault)),
         };
         match add_health(self.alloc, &mut self.store, &self.left, host, text) {
             Ok(()) => {
