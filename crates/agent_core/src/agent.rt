@@ -154,10 +154,8 @@ impl Agent {
         ensures { Opens H.honest (H.seen host.old)
             result (H.seen host.new) }
     {
-        match open_store(alloc, host) {
-            Ok(store) => Agent::replayed(alloc, store, host),
-            Err(fault) => Err(fault),
-        }
+        let store = open_store(alloc, host)?;
+        Agent::replayed(alloc, store, host)
     }
 
     /// The agent of a store that was just opened, once all its beats are replayed.
@@ -269,14 +267,8 @@ impl Agent {
         match step {
             Step::Nothing => Ok(Said::Nothing),
             Step::Disabled => Ok(Said::Disabled),
-            Step::Beat(beat, moment) => match self.beat(host, &beat, moment) {
-                Ok(reply) => Ok(Said::Stored(reply)),
-                Err(fault) => Err(fault),
-            },
-            Step::Query(text) => match self.query(host, text.as_str()) {
-                Ok(reply) => Ok(Said::Table(reply)),
-                Err(fault) => Err(fault),
-            },
+            Step::Beat(beat, moment) => Ok(Said::Stored(self.beat(host, &beat, moment)?)),
+            Step::Query(text) => Ok(Said::Table(self.query(host, text.as_str())?)),
         }
     }
 
