@@ -1,4 +1,4 @@
-ghost use Rattle.std.specs.Prelude.{◌≡◌, ◌<◌, ◌≤◌, ◌⊎◌, ◌∷◌, ℕ, List, None, true, false, IfOk, IfErr, OnOk, OnErr};
+ghost use Rattle.std.specs.Prelude.{◌≡◌, ◌<◌, ◌≤◌, ◌⊎◌, ◌∷◌, ℕ, List, None, Err, true, false, IfOk, IfErr, OnOk, OnErr};
 ghost use Rattle.host_model.specs.Past.{Event};
 ghost use Rattle.host_model.specs.Disks.{EveryDisk};
 ghost use Rattle.host_model.specs.Moments.{Throughout};
@@ -17,7 +17,7 @@ ghost use Rattle.alarm_core.specs.UpTo.{IsUpTo};
 ghost use Rattle.agent_core.specs.Alarms.{events_at, DefinesNothing, IsSteppingOf};
 ghost use Rattle.agent_core.specs.Calls.{Beats, Creates, Lines, Logs, Opens, SetsHealth};
 ghost use Rattle.agent_core.specs.Fed.{IsFed};
-ghost use Rattle.agent_core.specs.Faults.{fault_after, IsUnreplayed};
+ghost use Rattle.agent_core.specs.Faults.{cause_of, fault_after, of_block, IsUnreplayed};
 ghost use Rattle.agent_core.specs.Stands.{HoldsHistory, StandsForHistory};
 ghost use Rattle.agent_core.specs.Left.{AwaitsAlarms, IsLeftBy};
 ghost use Rattle.agent_core.specs.Notes.{notes_go_on};
@@ -44,10 +44,10 @@ use crate::replaying::{open_store, replay_all};
 use crate::reply::{Reply, Said};
 use crate::side::{read_left, write_left};
 use alarm_core::Log;
-use beat_entries::{BeatFault, define_beat, judge_beat};
+use beat_entries::{define_beat, judge_beat};
 use chart_registry::Registry;
 use collect_block::{Feed, Step};
-use health_config::{Config, ConfigFault};
+use health_config::Config;
 use history::{BlockFault, Line, NumberedBeat, OpenBeat};
 use host_model::Host;
 use std::alloc::Global;
@@ -106,8 +106,9 @@ impl Agent {
 
     /// Makes the agent of a history without beats, and its database, where there is none.
     ///
-    /// `Exists` where there is a database, unless the disk fails or memory runs out, and nothing is written then. At every moment a crash
-    /// leaves what it might have left before the call, no database, or the one without beats; at `Ok` the last.
+    /// `Exists` where there is a database, unless the disk fails or memory runs out, and nothing is
+    /// written then. At every moment a crash leaves what it might have left before the call, no
+    /// database, or the one without beats; at `Ok` the last.
     pub fn create<H: Host>(
         alloc: Global,
         host: &mut H,
@@ -132,29 +133,29 @@ impl Agent {
 
     /// Opens the database of an agent and goes through all that it holds.
     ///
-    /// `NotADatabase` where there is none, unless the disk fails or memory runs out, and `Damaged` only where what is there
-    /// stands for no history. With 1 to 4 it tells the first part of the files that is not in its form: 1 the checkpoint's
-    /// file, 2 its body, 3 an extent, 4 the journal. With 5 all of these are in form, and the side of the checkpoint, a note
-    /// or a point is bad. What the pages of the extents hold, and whether any beats leave that, is not asked. A side is
-    /// bad where it is none, its charts and dimensions do not go on from nothing, or its alarms are of a text
-    /// that is refused or of a chart that is not there. A note is bad where it is no entry of a beat with the
-    /// moment of its record, does not go on from the side and the notes before, mixes copies with collected
-    /// beats, has a definition that does not keep its limits, or is a configuration whose text is refused. A
-    /// point is bad where it names a series that is not there. What a side says of last rows, last points and
-    /// gaps is compared with nothing. The words
-    /// and steps of points are not compared with their definition, and a gap's child and beginning are compared
-    /// with nothing. The alarms are those of that history: each beat steps them as it did when it was stored.
-    /// At `Ok` the agent is of each history that the disk stands for, and these are all
-    /// that a crash leaves from then on. At every moment a crash leaves what it might have left before, and each
-    /// file reads as before: the disk is only read and synced.
+    /// `NotADatabase` where there is none, unless the disk fails or memory runs out, and `Damaged`
+    /// only where what is there stands for no history. With 1 to 4 it tells the first part of the
+    /// files that is not in its form: 1 the checkpoint's file, 2 its body, 3 an extent, 4 the
+    /// journal. With 5 all of these are in form, and the side of the checkpoint, a note or a point
+    /// is bad. What the pages of the extents hold, and whether any beats leave that, is not asked.
+    /// A side is bad where it is none, its charts and dimensions do not go on from nothing, or its
+    /// alarms are of a text that is refused or of a chart that is not there. A note is bad where it
+    /// is no entry of a beat with the moment of its record, does not go on from the side and the
+    /// notes before, mixes copies with collected beats, has a definition that does not keep its
+    /// limits, or is a configuration whose text is refused. A point is bad where it names a series
+    /// that is not there. What a side says of last rows, last points and gaps is compared with
+    /// nothing. The words and steps of points are not compared with their definition, and a gap's
+    /// child and beginning are compared with nothing. The alarms are those of that history: each
+    /// beat steps them as it did when it was stored. At `Ok` the agent is of each history that the
+    /// disk stands for, and these are all that a crash leaves from then on. At every moment a crash
+    /// leaves what it might have left before, and each file reads as before: the disk is only read
+    /// and synced.
     pub fn open<H: Host>(alloc: Global, host: &mut H) -> Result<Agent, AgentFault>
         ensures { Opens H.honest (H.seen host.old)
             result (H.seen host.new) }
     {
-        match open_store(alloc, host) {
-            Ok(store) => Agent::replayed(alloc, store, host),
-            Err(fault) => Err(fault),
-        }
+        let store = open_store(alloc, host)?;
+        Agent::replayed(alloc, store, host)
     }
 
     /// The agent of a store that was just opened, once all its beats are replayed.
@@ -210,20 +211,12 @@ impl Agent {
         ensures { Lines H.honest (H.seen host.old) self.old feed.old
             line.now result (H.seen host.new) self.new feed.new }
     {
-        if let Some(earlier) = self.fault {
-            return Err(AgentFault::Reopen(earlier));
+        if let Some(cause) = self.fault {
+            return Err(AgentFault::Reopen(cause));
         }
         let copies = self.left.role.copies();
-        match feed.line(&self.left.registry, self.last, copies, line) {
-            Ok(step) => self.take_step(host, step),
-            Err(fault) => match fault {
-                BlockFault::Memory => {
-                    self.fault = Some(Why::Memory);
-                    Err(AgentFault::Memory)
-                }
-                reason => Err(AgentFault::Refused(reason)),
-            },
-        }
+        let fed = feed.line(&self.left.registry, self.last, copies, line);
+        self.take_fed(host, fed)
     }
 
     /// The same of a line that is given away: its texts are kept and not copied.
@@ -239,19 +232,37 @@ impl Agent {
         ensures { Lines H.honest (H.seen host.old) self.old feed.old
             line result (H.seen host.new) self.new feed.new }
     {
-        if let Some(earlier) = self.fault {
-            return Err(AgentFault::Reopen(earlier));
+        if let Some(cause) = self.fault {
+            return Err(AgentFault::Reopen(cause));
         }
         let copies = self.left.role.copies();
-        match feed.take_line(&self.left.registry, self.last, copies, line) {
+        let fed = feed.take_line(&self.left.registry, self.last, copies, line);
+        self.take_fed(host, fed)
+    }
+
+    /// Does what a feed made of a line: a step, or its fault.
+    fn take_fed<H: Host>(
+        &mut self,
+        host: &mut H,
+        fed: Result<Step, BlockFault>,
+    ) -> Result<Said, AgentFault>
+        requires ready { AgentIsReady H.honest (H.seen host.old).past self.old }
+        requires going { self.old.fault ≡ None }
+        requires is_open { IfOk fed IsOpenStep }
+        ensures took { IfOk fed (λ step. Takes H.honest (H.seen host.old) self.old
+            step result (H.seen host.new) self.new) }
+        ensures told { IfErr fed (λ fault. result ≡ Err (of_block fault)) }
+        ensures spent { IfErr fed
+            (λ fault. self.new ≡ record self.old { fault = cause_of (of_block fault) }) }
+        ensures host { OnErr fed (H.seen host.new ≡ H.seen host.old) }
+    {
+        match fed {
             Ok(step) => self.take_step(host, step),
-            Err(fault) => match fault {
-                BlockFault::Memory => {
-                    self.fault = Some(Why::Memory);
-                    Err(AgentFault::Memory)
-                }
-                why => Err(AgentFault::Refused(why)),
-            },
+            Err(fault) => {
+                let fault = AgentFault::from(fault);
+                self.fault = fault.cause();
+                Err(fault)
+            }
         }
     }
 
@@ -266,14 +277,8 @@ impl Agent {
         match step {
             Step::Nothing => Ok(Said::Nothing),
             Step::Disabled => Ok(Said::Disabled),
-            Step::Beat(beat, moment) => match self.beat(host, &beat, moment) {
-                Ok(reply) => Ok(Said::Stored(reply)),
-                Err(fault) => Err(fault),
-            },
-            Step::Query(text) => match self.query(host, text.as_str()) {
-                Ok(reply) => Ok(Said::Table(reply)),
-                Err(fault) => Err(fault),
-            },
+            Step::Beat(beat, moment) => Ok(Said::Stored(self.beat(host, &beat, moment)?)),
+            Step::Query(text) => Ok(Said::Table(self.query(host, text.as_str())?)),
         }
     }
 
@@ -304,10 +309,10 @@ impl Agent {
             beat,
         ) {
             Ok(numbered) => numbered,
-            Err(BeatFault::Refused(reason)) => return Err(AgentFault::Refused(reason)),
-            Err(BeatFault::Memory) => {
-                self.fault = Some(Why::Memory);
-                return Err(AgentFault::Memory);
+            Err(fault) => {
+                let fault = AgentFault::from(fault);
+                self.fault = fault.cause();
+                return Err(fault);
             }
         };
         match self.add_beat(host, &numbered) {
@@ -322,9 +327,9 @@ impl Agent {
         }
     }
 
-    /// Adds a beat that was judged, by number: first makes a checkpoint where one is due, and then has the registry take
-    /// what the beat defines. The alarms have still to follow it. After an `Err` nothing of the store and of what was left
-    /// is of use.
+    /// Adds a beat that was judged, by number: first makes a checkpoint where one is due, and then
+    /// has the registry take what the beat defines. The alarms have still to follow it. After an
+    /// `Err` nothing of the store and of what was left is of use.
     fn add_beat<H: Host>(&mut self, host: &mut H, numbered: &NumberedBeat) -> Result<(), AgentFault>
         requires fits { Fits H.honest (H.seen host.old).past self.old }
         requires later { self.old.last < numbered.now.moment }
@@ -444,11 +449,11 @@ impl Agent {
         }
         let config = match Config::read(self.alloc, text) {
             Ok(config) => config,
-            Err(ConfigFault::Memory) => {
-                self.fault = Some(Why::Memory);
-                return Err(AgentFault::Memory);
+            Err(fault) => {
+                let fault = AgentFault::from(fault);
+                self.fault = fault.cause();
+                return Err(fault);
             }
-            Err(fault) => return Err(AgentFault::Health(fault)),
         };
         match add_health(self.alloc, &mut self.store, &self.left, host, text) {
             Ok(()) => {

@@ -131,9 +131,11 @@ fn store_copy<H: Host>(
     see_copy(alloc, left, moment, kept.points.as_slice(), before)
 }
 
-/// Adds a beat of a message that defines this, where the registry has the definitions of the message, and these are the
-/// series of its names. It gives the events that the alarms tell. At every moment a crash leaves the history with the beat or without it. `fresh` says whether definitions came since the
-/// alarms were last stepped. After an `Err` nothing of the store and of what was left is of use.
+/// Adds a beat of a message that defines this, where the registry has the definitions of the
+/// message, and these are the series of its names. It gives the events that the alarms tell. At
+/// every moment a crash leaves the history with the beat or without it. `fresh` says whether
+/// definitions came since the alarms were last stepped. After an `Err` nothing of the store and of
+/// what was left is of use.
 fn add_copy<H: Host>(
     alloc: Global,
     store: &mut Store,

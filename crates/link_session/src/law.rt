@@ -12,12 +12,13 @@ ghost use Rattle.link_session.specs.Keeps.{Extends};
 ghost use Rattle.link_session.specs.Parent.{done_with};
 ghost use Rattle.link_session.specs.Steps.{data_in, run_from, start, world_of, IsKept, LeadTo, Step, WasSent};
 
-/// The laws of the steps that sessions are. Whatever frames come to a child, each Data that it says is an answer step:
-/// such steps lead to the world in which just these were sent besides. Whatever frames come to a parent, each Data that
-/// it takes is a delivery step, where it was ever sent: such steps lead to the history that the session leaves, and to
-/// each that a crash may leave before, with the first of the beats. After any steps from two histories without beats the
-/// parent is a copy of the child, and each Data is true of it, where the histories are such as a store keeps. It does
-/// nothing.
+/// The laws of the steps that sessions are. Whatever frames come to a child, each Data that it says
+/// is an answer step: such steps lead to the world in which just these were sent besides. Whatever
+/// frames come to a parent, each Data that it takes is a delivery step, where it was ever sent:
+/// such steps lead to the history that the session leaves, and to each that a crash may leave
+/// before, with the first of the beats. After any steps from two histories without beats the parent
+/// is a copy of the child, and each Data is true of it, where the histories are such as a store
+/// keeps. It does nothing.
 pub fn sessions_are_steps()
     ensures sends { (set : ASettings) (child parent : List Beat) (floors : List ℕ)
         (messages : List Data) (frames : List Frame)
