@@ -119,7 +119,10 @@ impl Store {
             (IsErrOf result StoreFault.DiskFault) }
         ensures output { (H.seen host.new).tell_faults ≡ (H.seen host.old).tell_faults }
     {
-        let (body, sealed) = next_body(self.alloc, &self.body, &self.tiers, self.count, side)?;
+        let made = next_body(self.alloc, &self.body, &self.tiers, self.count, side);
+        let Ok((body, sealed)) = made else {
+            return Err(StoreFault::Memory);
+        };
         self.files.checkpoint(self.alloc, host, &body, &sealed)?;
         self.body = body;
         Ok(())

@@ -84,8 +84,12 @@ impl Store {
             (IsErrOf result StoreFault.DiskFault) }
         ensures output { (H.seen host.new).tell_faults ≡ (H.seen host.old).tell_faults }
     {
-        let body = first_body(alloc, settings, side)?;
-        let tiers = new_tiers(alloc, settings)?;
+        let Ok(body) = first_body(alloc, settings, side) else {
+            return Err(StoreFault::Memory);
+        };
+        let Ok(tiers) = new_tiers(alloc, settings) else {
+            return Err(StoreFault::Memory);
+        };
         let files = crate::disk::create(alloc, host, &body)?;
         Ok(Store {
             alloc,

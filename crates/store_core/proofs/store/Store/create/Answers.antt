@@ -19,29 +19,29 @@ use Rattle.store_core.proofs.store.Store.create.Goals as goal
 
 -- ---- nothing has happened yet
 
-pub returns-in_err-body-clause-any_moment : goal.returns-in_err-body-clause-any_moment
-returns-in_err-body-clause-any_moment g c h = begins (λ disk images. inl images)
+pub returns-in_default-clause-any_moment : goal.returns-in_default-clause-any_moment
+returns-in_default-clause-any_moment g c h = begins (λ disk images. inl images)
 
-pub returns-in_err-body-clause-made_moment : goal.returns-in_err-body-clause-made_moment
-returns-in_err-body-clause-made_moment g c h made = begins (λ disk images. images)
+pub returns-in_default-clause-made_moment : goal.returns-in_default-clause-made_moment
+returns-in_default-clause-made_moment g c h made = begins (λ disk images. images)
 
-pub returns-in_err-body-clause-memory_moment : goal.returns-in_err-body-clause-memory_moment
-returns-in_err-body-clause-memory_moment g c is h = begins (λ disk images. images)
+pub returns-in_default-clause-memory_moment : goal.returns-in_default-clause-memory_moment
+returns-in_default-clause-memory_moment g c is h = begins (λ disk images. images)
 
-pub returns-in_err-body-clause-bound : goal.returns-in_err-body-clause-bound
-returns-in_err-body-clause-bound g c most short h within = begins within
+pub returns-in_default-clause-bound : goal.returns-in_default-clause-bound
+returns-in_default-clause-bound g c most short h within = begins within
 
-pub returns-in_err-tiers-clause-any_moment : goal.returns-in_err-tiers-clause-any_moment
-returns-in_err-tiers-clause-any_moment g c h = begins (λ disk images. inl images)
+pub returns-in_default-new_tiers-clause-any_moment : goal.returns-in_default-new_tiers-clause-any_moment
+returns-in_default-new_tiers-clause-any_moment g c h = begins (λ disk images. inl images)
 
-pub returns-in_err-tiers-clause-made_moment : goal.returns-in_err-tiers-clause-made_moment
-returns-in_err-tiers-clause-made_moment g c h made = begins (λ disk images. images)
+pub returns-in_default-new_tiers-clause-made_moment : goal.returns-in_default-new_tiers-clause-made_moment
+returns-in_default-new_tiers-clause-made_moment g c h made = begins (λ disk images. images)
 
-pub returns-in_err-tiers-clause-memory_moment : goal.returns-in_err-tiers-clause-memory_moment
-returns-in_err-tiers-clause-memory_moment g c is h = begins (λ disk images. images)
+pub returns-in_default-new_tiers-clause-memory_moment : goal.returns-in_default-new_tiers-clause-memory_moment
+returns-in_default-new_tiers-clause-memory_moment g c is h = begins (λ disk images. images)
 
-pub returns-in_err-tiers-clause-bound : goal.returns-in_err-tiers-clause-bound
-returns-in_err-tiers-clause-bound g c most short h within = begins within
+pub returns-in_default-new_tiers-clause-bound : goal.returns-in_default-new_tiers-clause-bound
+returns-in_default-new_tiers-clause-bound g c most short h within = begins within
 
 -- ---- the files were made, or not
 
@@ -58,7 +58,7 @@ returns-clause-made_moment g c h made =
 
 pub returns-in_err-files-clause-exists : goal.returns-in_err-files-clause-exists
 returns-in_err-files-clause-exists g c is h =
-    let p = err_from_is_err_and c.from_residual-in_err-files.result c.from_residual-in_err-files.ensures.1 in
+    let p = err_from_is_err_and c.from_residual.result c.from_residual.ensures.1 in
     let fault : p.0 ≡ Exists = cc in
     is-made (reads_as (g.H.Host.seen c.args.host.now).past)
     ∙ c.in_err-files.ensures.exists (ap Err (same-fault c.in_err-files.field-0.0 files.Exists (sym p.2 ∙ fault))) h
@@ -72,7 +72,7 @@ made_fault fault other same (inr is) = let here : fault ≡ files.DiskFault = cc
 
 pub returns-in_err-files-clause-made : goal.returns-in_err-files-clause-made
 returns-in_err-files-clause-made g c h made =
-    let p = err_from_is_err_and c.from_residual-in_err-files.result c.from_residual-in_err-files.ensures.1 in
+    let p = err_from_is_err_and c.from_residual.result c.from_residual.ensures.1 in
     let held = c.in_err-files.ensures.made h (sym (is-made (reads_as (g.H.Host.seen c.args.host.now).past)) ∙ made) in
     rw p.1 (made_fault c.in_err-files.field-0.0 p.0 p.2 held.0, held.1)
 
@@ -82,34 +82,34 @@ returns-in_err-files-clause-made_moment g c h made =
 
 pub returns-clause-ready : goal.returns-clause-ready
 returns-clause-ready g c =
-    let first = c.in_ok-body.ensures in
+    let first = c.in-Ok.ensures in
     new-ready g.H.Host.honest (g.H.Host.seen c.create.new.host).past _ c.args.settings.now refl first.spelt first.empty first.tiers
-    c.in_ok-tiers.ensures c.new.ensures (sym (ap (λ (b : Body). b.count) first.body)) c.in_ok-files.ensures.ready.place (λ h. c.in_ok-files.ensures.created h)
+    c.in-Ok-new_tiers.ensures c.new.ensures (sym (ap (λ (b : Body). b.count) first.body)) c.in_ok-files.ensures.ready.place (λ h. c.in_ok-files.ensures.created h)
 
 pub returns-clause-any_moment : goal.returns-clause-any_moment
 returns-clause-any_moment g c h =
-    let first = c.in_ok-body.ensures in
+    let first = c.in-Ok.ensures in
     let set = c.args.settings.now in
     disks_weaker
-    (was-or-new (g.H.Host.seen c.args.host.now).past c.in_ok-body.body set c.args.side (new-stored c.in_ok-body.body set c.args.side first.body first.empty first.tiers))
+    (was-or-new (g.H.Host.seen c.args.host.now).past c.in-Ok.body set c.args.side (new-stored c.in-Ok.body set c.args.side first.body first.empty first.tiers))
     (c.create.ensures.any_moment h)
 
 pub returns-clause-bound : goal.returns-clause-bound
 returns-clause-bound g c most short h within =
-    let first = c.in_ok-body.ensures in
+    let first = c.in-Ok.ensures in
     let set = c.args.settings.now in
-    c.create.ensures.bound (share set most) (new-room c.in_ok-body.body set c.args.side most first.body first.spelt short) h within
+    c.create.ensures.bound (share set most) (new-room c.in-Ok.body set c.args.side most first.body first.spelt short) h within
 
 pub returns-in_err-files-clause-any_moment : goal.returns-in_err-files-clause-any_moment
 returns-in_err-files-clause-any_moment g c h =
-    let first = c.in_ok-body.ensures in
+    let first = c.in-Ok.ensures in
     let set = c.args.settings.now in
     disks_weaker
-    (was-or-new (g.H.Host.seen c.args.host.now).past c.in_ok-body.body set c.args.side (new-stored c.in_ok-body.body set c.args.side first.body first.empty first.tiers))
+    (was-or-new (g.H.Host.seen c.args.host.now).past c.in-Ok.body set c.args.side (new-stored c.in-Ok.body set c.args.side first.body first.empty first.tiers))
     (c.create.ensures.any_moment h)
 
 pub returns-in_err-files-clause-bound : goal.returns-in_err-files-clause-bound
 returns-in_err-files-clause-bound g c most short h within =
-    let first = c.in_ok-body.ensures in
+    let first = c.in-Ok.ensures in
     let set = c.args.settings.now in
-    c.create.ensures.bound (share set most) (new-room c.in_ok-body.body set c.args.side most first.body first.spelt short) h within
+    c.create.ensures.bound (share set most) (new-room c.in-Ok.body set c.args.side most first.body first.spelt short) h within
