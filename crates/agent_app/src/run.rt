@@ -18,7 +18,11 @@ pub(crate) fn opening_status(fault: AgentFault) -> Status
         AgentFault::DiskFault => Status::DiskFault,
         AgentFault::NotADatabase => Status::NotADatabase,
         AgentFault::Damaged(part) => Status::Damaged(part),
-        _ => Status::Memory,
+        AgentFault::Refused(_)
+        | AgentFault::Health(_)
+        | AgentFault::Reopen(_)
+        | AgentFault::Exists
+        | AgentFault::Memory => Status::Memory,
     }
 }
 
