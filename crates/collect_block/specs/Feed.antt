@@ -66,9 +66,10 @@ abbrev pub RefusedBy : Option BlockFault → BlockFault → Type 0
 RefusedBy reason Memory = reason ≡ None
 RefusedBy reason fault = reason ≡ Some fault
 
--- There is the chart that a line's dimension is of, or the block that it closes.
+-- There is the chart that a line's dimension is of, or the block that its value goes to or that it closes.
 abbrev pub IsPlaced : Line → Feed → Type 0
 IsPlaced (line.Dimension def) feed = is_some feed.chart ≡ true
+IsPlaced (line.Set id value anomalous) feed = is_some feed.block ≡ true
 IsPlaced line.End feed = is_some feed.block ≡ true
 IsPlaced line feed = Unit {0}
 

@@ -226,10 +226,11 @@ impl Feed {
     }
 
     fn set_refusal(&self, registry: &Registry, id: &str) -> Option<BlockFault>
-        ensures { (every : ℕ) (past : List ALine) (copies : Bool) (last : ℕ) (value : Option ℤ)
-            (anomalous : Bool) → IsFeedOf self.now every past
+        ensures reason { (every : ℕ) (past : List ALine) (copies : Bool) (last : ℕ)
+            (value : Option ℤ) (anomalous : Bool) → IsFeedOf self.now every past
             → result ≡ refusal registry.now every past copies last
             (line.Set id.now value anomalous) }
+        ensures placed { result ≡ None → is_some self.now.block ≡ true }
     {
         let Some(block) = &self.block else {
             return Some(BlockFault::NoBlock);
@@ -385,15 +386,14 @@ impl Feed {
     }
 
     fn set(&mut self, id: Text, value: Option<i64>, anomalous: bool) -> Result<(), AllocError>
+        requires { is_some self.old.block ≡ true }
         ensures taken { OnOk result (Becomes (line.Set id value anomalous) self.old self.new) }
         ensures counts { OnOk result ((registry : Definitions) → CountsFor self.old registry
             → CountsFor self.new registry) }
         ensures err { OnErr result (self.new ≡ self.old) }
     {
-        match &mut self.block {
-            Some(block) => block.values.set(id, value, anomalous),
-            None => Ok(()),
-        }
+        let block = self.block.as_mut().unwrap();
+        block.values.set(id, value, anomalous)
     }
 
     fn end_block(&mut self) -> Result<(), AllocError>

@@ -23,7 +23,7 @@ returns-in-Begin-clause-reason c = λ every past is counts.
 
 pub returns-in-Set-clause-reason : goal.returns-in-Set-clause-reason
 returns-in-Set-clause-reason c = λ every past is counts.
-    c.set_refusal.ensures every past c.args.copies c.args.last c.in-Set.value c.in-Set.anomalous is
+    c.set_refusal.ensures.reason every past c.args.copies c.args.last c.in-Set.value c.in-Set.anomalous is
     ∙ ap (λ (id : List ℕ). refusal c.args.registry.now every past c.args.copies c.args.last (line.Set id c.in-Set.value c.in-Set.anomalous)) c.as_str-in-Set.ensures
     ∙ ap (refusal c.args.registry.now every past c.args.copies c.args.last) (sym c.in-Set.is)
 
