@@ -1,8 +1,9 @@
-ghost use Rattle.std.specs.Prelude.{◌≡◌, ◌++◌, [], true, is_some, IfOk, OnOk, filter_map};
+ghost use Rattle.std.specs.Prelude.{◌≡◌, ◌++◌, [], Some, true, is_some, All, IsSome, IfOk, OnOk, filter_map};
 ghost use Rattle.std.specs.List.{cons_option};
 ghost use Rattle.std.specs.List.Sorted.{IsPermutation, IsNonDecreasingBy};
 ghost use Rattle.beat_entries.specs.Defined.{IsDefinedIn};
 ghost use Rattle.history.specs.Numbered.{numbered_charts, numbered_dimensions};
+ghost use Rattle.history.specs.Registry.{chart_of, series_of};
 ghost use Rattle.beat_entries.specs.Coming.{CanNumber};
 ghost use Rattle.beat_entries.specs.Gathered.{chart_at, dimension_at};
 ghost use Rattle.beat_entries.specs.Rules.{with_beat};
@@ -23,34 +24,34 @@ pub struct NumberedDefinitions {
 }
 
 /// A chart with its number.
-fn number_chart(coming: &Coming, def: &ChartDef) -> Result<Option<NumberedChart>, AllocError>
-    requires { CanNumber coming.now }
-    ensures { IfOk result (λ made. made
+fn number_chart(coming: &Coming, def: &ChartDef) -> Result<NumberedChart, AllocError>
+    requires can { CanNumber coming.now }
+    requires chart { IsSome
+        (chart_of (with_beat coming.now.registry.now coming.now.beat.now) def.now.id) }
+    ensures { IfOk result (λ made. Some made
         ≡ chart_at (with_beat coming.now.registry.now coming.now.beat.now) def.now) }
 {
-    match coming.chart(def.id.as_str()) {
-        Some(place) => Ok(Some(NumberedChart {
-            number: place.number,
-            def: def.clone()?,
-        })),
-        None => Ok(None),
-    }
+    let place = coming.chart(def.id.as_str()).unwrap();
+    Ok(NumberedChart {
+        number: place.number,
+        def: def.clone()?,
+    })
 }
 
-/// Adds a chart, if it has a number.
+/// Adds a chart with its number.
 fn push_chart(
     charts: &mut Vec<NumberedChart>,
     coming: &Coming,
     def: &ChartDef,
 ) -> Result<(), AllocError>
-    requires { CanNumber coming.now }
+    requires can { CanNumber coming.now }
+    requires chart { IsSome
+        (chart_of (with_beat coming.now.registry.now coming.now.beat.now) def.now.id) }
     ensures { OnOk result (charts.new.items ≡ charts.old.items
         ++ cons_option
         (chart_at (with_beat coming.now.registry.now coming.now.beat.now) def.now) []) }
 {
-    if let Some(chart) = number_chart(coming, def)? {
-        charts.push(chart)?;
-    }
+    charts.push(number_chart(coming, def)?)?;
     Ok(())
 }
 
@@ -59,7 +60,9 @@ fn gather_charts(
     coming: &Coming,
     defs: &[ChartDef],
 ) -> Result<Vec<NumberedChart>, AllocError>
-    requires { CanNumber coming.now }
+    requires can { CanNumber coming.now }
+    requires charts { All (λ def. IsSome
+        (chart_of (with_beat coming.now.registry.now coming.now.beat.now) def.id)) defs.now }
     ensures { IfOk result (λ charts. charts.items ≡ filter_map
         (chart_at (with_beat coming.now.registry.now coming.now.beat.now)) defs.now) }
 {
@@ -94,23 +97,25 @@ fn number_dimension(
     coming: &Coming,
     near: u32,
     dimension: &OpenDim,
-) -> Result<Option<NumberedDimension>, AllocError>
-    requires { CanNumber coming.now }
-    ensures { IfOk result (λ made. made
+) -> Result<NumberedDimension, AllocError>
+    requires can { CanNumber coming.now }
+    requires chart { IsSome
+        (chart_of (with_beat coming.now.registry.now coming.now.beat.now) dimension.now.chart) }
+    requires series { IsSome
+        (series_of (with_beat coming.now.registry.now coming.now.beat.now) dimension.now.chart
+        dimension.now.def.id) }
+    ensures { IfOk result (λ made. Some made
         ≡ dimension_at (with_beat coming.now.registry.now coming.now.beat.now) dimension.now) }
 {
     let chart = dimension.chart.as_str();
-    let Some(place) = coming.chart(chart) else {
-        return Ok(None);
-    };
-    match coming.series(place.known, near, chart, dimension.def.id.as_str()) {
-        Some(series) => Ok(Some(NumberedDimension {
-            series,
-            chart: place.number,
-            def: dimension.def.clone()?,
-        })),
-        None => Ok(None),
-    }
+    let id = dimension.def.id.as_str();
+    let place = coming.chart(chart).unwrap();
+    let series = coming.series(place.known, near, chart, id).unwrap();
+    Ok(NumberedDimension {
+        series,
+        chart: place.number,
+        def: dimension.def.clone()?,
+    })
 }
 
 /// The series behind the last of these dimensions.
@@ -121,21 +126,24 @@ fn series_behind(dimensions: &[NumberedDimension]) -> u32 {
     }
 }
 
-/// Adds a dimension, if it has a number.
+/// Adds a dimension with its number.
 fn push_dimension(
     dimensions: &mut Vec<NumberedDimension>,
     coming: &Coming,
     dimension: &OpenDim,
 ) -> Result<(), AllocError>
-    requires { CanNumber coming.now }
+    requires can { CanNumber coming.now }
+    requires chart { IsSome
+        (chart_of (with_beat coming.now.registry.now coming.now.beat.now) dimension.now.chart) }
+    requires series { IsSome
+        (series_of (with_beat coming.now.registry.now coming.now.beat.now) dimension.now.chart
+        dimension.now.def.id) }
     ensures { OnOk result (dimensions.new.items ≡ dimensions.old.items
         ++ cons_option
         (dimension_at (with_beat coming.now.registry.now coming.now.beat.now) dimension.now) []) }
 {
     let near = series_behind(dimensions.as_slice());
-    if let Some(numbered) = number_dimension(coming, near, dimension)? {
-        dimensions.push(numbered)?;
-    }
+    dimensions.push(number_dimension(coming, near, dimension)?)?;
     Ok(())
 }
 
@@ -144,7 +152,13 @@ fn gather_dimensions(
     coming: &Coming,
     defs: &[OpenDim],
 ) -> Result<Vec<NumberedDimension>, AllocError>
-    requires { CanNumber coming.now }
+    requires can { CanNumber coming.now }
+    requires charts { All (λ dimension. IsSome
+        (chart_of (with_beat coming.now.registry.now coming.now.beat.now) dimension.chart))
+        defs.now }
+    requires series { All (λ dimension. IsSome
+        (series_of (with_beat coming.now.registry.now coming.now.beat.now) dimension.chart
+        dimension.def.id)) defs.now }
     ensures { IfOk result (λ dimensions. dimensions.items ≡ filter_map
         (dimension_at (with_beat coming.now.registry.now coming.now.beat.now)) defs.now) }
 {
