@@ -6,14 +6,15 @@ ghost use Rattle.health_config.specs.Entity.{alarm_of};
 ghost use Rattle.alarm_core.specs.Pairs as spec;
 
 use crate::by_chart::OnChart;
+use alarm_events::MOST_STATES;
 use chart_registry::Registry;
 use fixed_num::ListOf;
 use health_config::Entity;
 use history::ChartDef;
 use std::alloc::{AllocError, Global};
 
-/// The most alarms of charts that are computed.
-pub const MOST_PAIRS: usize = 65_536;
+/// The most alarms of charts that are computed: each has a state.
+pub const MOST_PAIRS: usize = MOST_STATES;
 
 /// An alarm and a chart that it is computed for.
 #[derive(Clone, Copy, Debug, PartialEq, Eq)]

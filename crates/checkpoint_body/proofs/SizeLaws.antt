@@ -24,7 +24,8 @@ use Rattle.checkpoint_body.specs.declared.of_tiers.OfTiers.{OfTiers}
 use Rattle.checkpoint_body.specs.declared.page.RecordPage.{RecordPage}
 use Rattle.checkpoint_body.specs.declared.page.SlotPage.{SlotPage}
 use Rattle.checkpoint_body.specs.Body.{body_bytes, extents_of, floors_of, sealed_of, HasSpelling}
-use Rattle.checkpoint_body.specs.Canonical.{are_few, are_in_order, are_open, ends_in_time, is_ascending, is_point_tier, is_record_page, is_record_tier, is_series, is_slot_page, point_count, record_count, record_span, slot_span, spaced}
+use Rattle.checkpoint_body.specs.Canonical.{are_few, are_in_order, are_open, ends_in_time, is_ascending, is_point_tier, is_record_page, is_record_tier, is_series, is_slot_page, point_count, record_count, record_span, slot_span}
+use Rattle.page_buffer.specs.Slots.{spaced}
 use Rattle.checkpoint_body.specs.Fields.{each_bytes, extent_bytes, open_record_bytes, quota_bytes, record_bytes, record_page_bytes, settings_bytes, slot_page_bytes}
 use Rattle.checkpoint_body.specs.Size.{body_limit, point_tier_limit, record_tier_limit}
 

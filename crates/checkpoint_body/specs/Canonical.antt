@@ -9,9 +9,10 @@ use Rattle.checkpoint_body.specs.declared.body.PointTier.{PointTier}
 use Rattle.checkpoint_body.specs.declared.body.RecordTier.{RecordTier}
 use Rattle.checkpoint_body.specs.declared.page.RecordPage.{RecordPage}
 use Rattle.checkpoint_body.specs.declared.page.SlotPage.{SlotPage}
-use Rattle.checkpoint_body.specs.declared.records.TheConstants.{MOST_RECORDS}
-use Rattle.checkpoint_body.specs.declared.slots.TheConstants.{MOST_EMPTY, MOST_SLOTS}
+use Rattle.page_buffer.specs.declared.record_page.TheConstants.{MOST_RECORDS}
+use Rattle.page_buffer.specs.declared.slot_page.TheConstants.{MOST_EMPTY, MOST_SLOTS}
 use Rattle.checkpoint_body.specs.declared.span.Span.{Span}
+use Rattle.page_buffer.specs.Slots.{spaced}
 
 -- ---- extents
 
@@ -52,12 +53,6 @@ abbrev pub are_in_order : List Span → Bool
 are_in_order [] = true
 are_in_order (one ∷ []) = true
 are_in_order (one ∷ next ∷ others) = is_before one next && are_in_order (next ∷ others)
-
--- after so many empty slots: at most MOST_EMPTY in a row are empty, and the last is not
-abbrev pub spaced : ℕ → List ℕ → Bool
-spaced empty [] = empty == 0
-spaced empty (zero ∷ words) = nat_lt empty MOST_EMPTY && spaced (empty + 1) words
-spaced empty (suc _ ∷ words) = spaced 0 words
 
 abbrev pub ends_in_time : Span → Bool
 ends_in_time span = nat_lt span.end (2 ^ 32)

@@ -3,7 +3,7 @@ use Rattle.std.specs.Prelude.{ℕ, ◌+◌, ◌*◌, ◌/◌, ◌-◌, ◌<◌, 
 use Rattle.fixed_num.specs.declared.units.Record.{Record}
 use Rattle.checkpoint_body.specs.declared.item.BucketRecord.{BucketRecord}
 use Rattle.checkpoint_body.specs.declared.page.RecordPage.{RecordPage}
-use Rattle.checkpoint_body.specs.declared.records.TheConstants.{MOST_RECORDS}
+use Rattle.page_buffer.specs.declared.record_page.TheConstants.{MOST_RECORDS}
 use Rattle.checkpoint_body.specs.Pages.{pages_of}
 
 -- the page of a record alone: it begins with the record's bucket

@@ -2,7 +2,7 @@
 use Rattle.std.specs.Prelude.{ℕ, zero, suc, ◌+◌, ◌*◌, ◌-◌, ◌<◌, ◌^◌, Bool, ◌&&◌, ◌==◌, nat_lt, List, [], ◌∷◌, ◌++◌, length, replicate, find, flat_map, sum_by, Option, option_map}
 use Rattle.checkpoint_body.specs.declared.item.Point.{Point}
 use Rattle.checkpoint_body.specs.declared.page.SlotPage.{SlotPage}
-use Rattle.checkpoint_body.specs.declared.slots.TheConstants.{MOST_SLOTS}
+use Rattle.page_buffer.specs.declared.slot_page.TheConstants.{MOST_SLOTS}
 use Rattle.checkpoint_body.specs.Pages.{pages_of}
 
 -- the page of a point alone

@@ -5,14 +5,14 @@ ghost use Rattle.checkpoint_body.specs.declared.body.OpenRecord.{OpenRecord as A
 ghost use Rattle.tier_settings.specs.Limits.{HasWidths};
 ghost use Rattle.std.specs.List.{list_all};
 ghost use Rattle.checkpoint_body.specs.Body.{is_canonical};
-ghost use Rattle.checkpoint_body.specs.Canonical.{are_few, are_in_order, are_open, is_ascending, is_before, is_point_tier, is_record_page, is_record_tier, is_series, is_slot_page, point_count, record_count, record_span, slot_span, spaced};
+ghost use Rattle.checkpoint_body.specs.Canonical.{are_few, are_in_order, are_open, is_ascending, is_before, is_point_tier, is_record_page, is_record_tier, is_series, is_slot_page, point_count, record_count, record_span, slot_span};
+ghost use Rattle.page_buffer.specs.Slots.{spaced};
 
 use crate::body::{Body, Extent, OpenRecord, PointTier, RecordTier};
 use crate::grid::{LAST_MOMENT, moment_of};
 use crate::page::{RecordPage, SlotPage};
-use crate::records::MOST_RECORDS;
-use crate::slots::{MOST_EMPTY, MOST_SLOTS};
 use crate::span::Span;
+use page_buffer::{MOST_EMPTY, MOST_RECORDS, MOST_SLOTS};
 use tier_settings::{MOST_SERIES, Tier, are_tiers};
 
 /// Whether these are at most as many extents as the tier keeps.

@@ -5,10 +5,8 @@ ghost use Rattle.checkpoint_body.specs.Records.{is_next, records_in, records_of,
 use crate::grid::moment_of;
 use crate::item::{BucketRecord, BucketRecordList};
 use crate::page::{RecordList, RecordPage, RecordPageList};
+use page_buffer::MOST_RECORDS;
 use std::alloc::{AllocError, Global};
-
-/// The most records of a page.
-pub(crate) const MOST_RECORDS: usize = 73;
 
 /// The page of a record alone.
 fn record_page_of(alloc: Global, width: u32, item: &BucketRecord) -> Result<RecordPage, AllocError>

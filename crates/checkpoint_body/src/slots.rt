@@ -4,13 +4,8 @@ ghost use Rattle.checkpoint_body.specs.Slots.{gaps, points_from, points_in, poin
 use crate::grid::moment_of;
 use crate::item::{Point, PointList};
 use crate::page::{SlotPage, SlotPageList, WordList};
+use page_buffer::MOST_SLOTS;
 use std::alloc::{AllocError, Global};
-
-/// The most slots of a page.
-pub(crate) const MOST_SLOTS: usize = 1_024;
-
-/// The most empty slots in a row.
-pub(crate) const MOST_EMPTY: u32 = 6;
 
 /// How many slots may be empty between two points.
 const GAPS: [u8; 7] = [0, 1, 2, 3, 4, 5, 6];

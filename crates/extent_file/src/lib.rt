@@ -8,7 +8,8 @@
 //! pages' own `decode`.
 //!
 //! It stands on `host_model` for what a crash leaves of a file, on `page_buffer` for the pages, on `page_pool` for
-//! raw pages, and on `byteorder` and `fixed_num`.
+//! raw pages, on `tier_settings` for the most items and extents of a tier, and on
+//! `byteorder` and `fixed_num`.
 #![tactic(auto)]
 
 mod directory;
@@ -30,7 +31,5 @@ pub use extent::Extent;
 pub use fault::ExtentFault;
 pub use law::bytes_say_one_extent;
 pub use page::{Page, PageList};
-pub use sizes::{
-    MOST_ENTRIES, MOST_ITEMS, MOST_SLOTS, PLACE_LIMIT, SLOT_LIMIT, START_LIMIT, size_of,
-};
+pub use sizes::{MOST_ENTRIES, PLACE_LIMIT, SLOT_LIMIT, START_LIMIT, size_of};
 pub use writing::write_extent;

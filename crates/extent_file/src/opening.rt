@@ -2,6 +2,7 @@ ghost use Rattle.std.specs.Prelude.{◌≡◌, ◌+◌, ◌*◌, ◌-◌, ◌<�
 ghost use Rattle.host_model.specs.Images.{contents};
 ghost use Rattle.host_model.specs.Past.{of};
 ghost use Rattle.host_model.specs.Cause.{HasCause};
+ghost use Rattle.tier_settings.specs.declared.limits.TheConstants.{MOST_EXTENTS, MOST_ITEMS};
 ghost use Rattle.extent_file.specs.Form.{Form, Rest, Says, StopsAt, Leads};
 ghost use Rattle.extent_file.specs.Slot.{IsTierFile, tier_of, item_size, slot_size, slot_start};
 ghost use Rattle.extent_file.specs.Directory.{at_first, directory_form, extent_form, HasHead, IsBadAt, AreInOrder};
@@ -12,7 +13,7 @@ use crate::entry::Entry;
 use crate::extent::Extent;
 use crate::fault::ExtentFault;
 use crate::head::read_head;
-use crate::sizes::{ENTRY_SIZE, HEAD_SIZE, MOST_ITEMS, MOST_SLOTS, slot_size, slot_start, tier_of};
+use crate::sizes::{ENTRY_SIZE, HEAD_SIZE, slot_size, slot_start, tier_of};
 use fixed_num::{ByteList, ListOf};
 use host_model::{Failed, File, Host};
 use std::alloc::Global;
@@ -156,7 +157,7 @@ impl Extent {
     ) -> Result<Extent, ExtentFault>
         requires tier { IsTierFile file }
         requires items { items ≤ MOST_ITEMS }
-        requires slot { slot ≤ MOST_SLOTS }
+        requires slot { slot ≤ MOST_EXTENTS }
         ensures place { IfOk result (λ extent. (extent.file ≡ file)
             × (extent.start ≡ slot_start (tier_of file) items slot)) }
         ensures opened { IfOk result (λ extent. H.honest

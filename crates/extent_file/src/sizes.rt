@@ -1,15 +1,10 @@
 ghost use Rattle.std.specs.Prelude.{◌≡◌, ◌+◌, ◌*◌, ◌<◌, ◌≤◌, ◌^◌};
+ghost use Rattle.tier_settings.specs.declared.limits.TheConstants.{MOST_EXTENTS, MOST_ITEMS};
 ghost use Rattle.extent_file.specs.Slot.{IsTierFile, tier_of, item_size, most_items, slot_size, slot_start};
 
 use host_model::File;
 use page_buffer::RECORD_SIZE;
 use page_pool::PAGE_SIZE;
-
-/// The most items at which a segment may be sealed. It has up to 65,535 more.
-pub const MOST_ITEMS: u32 = 262_144;
-
-/// The most extents that a tier keeps. Its file has one slot more: they are numbered from 0 to this.
-pub const MOST_SLOTS: u32 = 1_024;
 
 /// The most bytes that a slot has.
 pub const SLOT_LIMIT: u64 = 1 << 26;
@@ -79,7 +74,7 @@ pub(crate) fn slot_size(tier: u32, items: u32) -> u64
 /// Where a slot begins.
 pub(crate) fn slot_start(tier: u32, items: u32, slot: u32) -> u64
     requires items { items ≤ MOST_ITEMS }
-    requires slot { slot ≤ MOST_SLOTS }
+    requires slot { slot ≤ MOST_EXTENTS }
     ensures value { result ≡ slot_start tier items slot }
     ensures most { result ≤ START_LIMIT }
 {

@@ -3,6 +3,7 @@ ghost use Rattle.host_model.specs.Images.{contents, written, greatest, IsSynced}
 ghost use Rattle.host_model.specs.Past.{of};
 ghost use Rattle.host_model.specs.Cause.{HasCause};
 ghost use Rattle.host_model.specs.Moments.{Throughout, EveryImage, OnlyOn};
+ghost use Rattle.tier_settings.specs.declared.limits.TheConstants.{MOST_EXTENTS, MOST_ITEMS};
 ghost use Rattle.extent_file.specs.Slot.{IsTierFile, tier_of, slot_size, slot_start};
 ghost use Rattle.extent_file.specs.Directory.{at_first};
 ghost use Rattle.extent_file.specs.Pages.{ArePages, IsExtentOf, extent_size};
@@ -11,7 +12,7 @@ ghost use Rattle.extent_file.specs.Writing.{LiesAt, KeepsAll, KeepsBeside, fille
 use crate::encoding::encode;
 use crate::fault::ExtentFault;
 use crate::page::PageList;
-use crate::sizes::{MOST_ITEMS, MOST_SLOTS, slot_size, slot_start, tier_of};
+use crate::sizes::{slot_size, slot_start, tier_of};
 use host_model::{Failed, File, Host};
 use std::alloc::Global;
 
@@ -136,7 +137,7 @@ pub fn write_extent<H: Host>(
 ) -> Result<u64, ExtentFault>
     requires tier { IsTierFile file }
     requires items { items ≤ MOST_ITEMS }
-    requires slot { slot ≤ MOST_SLOTS }
+    requires slot { slot ≤ MOST_EXTENTS }
     requires pages { ArePages (tier_of file) (at_first (length pages.now)) pages.now }
     requires fits { extent_size (tier_of file) pages.now ≤ slot_size (tier_of file) items }
     ensures size { IfOk result (λ size. size ≡ extent_size (tier_of file) pages.now) }

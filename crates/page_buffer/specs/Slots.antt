@@ -4,18 +4,18 @@ use Rattle.page_buffer.specs.declared.fault.PageFault.{PageFault}
 use Rattle.page_buffer.specs.declared.fault.PageFault.TheVariants.{PageFull, TooFar, BadPage, Memory}
 use Rattle.page_buffer.specs.Items.{words_of, IsWords}
 use Rattle.page_buffer.specs.Page.{Page, page_of, moment_at, with_more, EndsInTime}
-use Rattle.page_buffer.specs.declared.slot_page.TheConstants.{MOST_SLOTS}
+use Rattle.page_buffer.specs.declared.slot_page.TheConstants.{MOST_EMPTY, MOST_SLOTS}
 
--- after so many empty slots: at most six in a row are empty, and the last is not
+-- after so many empty slots: at most MOST_EMPTY in a row are empty, and the last is not
 abbrev pub spaced : ℕ → List ℕ → Bool
 spaced empty [] = nat_eq empty 0
-spaced empty (zero ∷ words) = nat_lt empty 6 && spaced (empty + 1) words
+spaced empty (zero ∷ words) = nat_lt empty MOST_EMPTY && spaced (empty + 1) words
 spaced empty (suc _ ∷ words) = spaced 0 words
 
 -- the slots of one page, of which the first is not empty
 abbrev pub AreSlots : ℕ → ℕ → List ℕ → Type 0
 AreSlots first step words =
-    (length words ≤ MOST_SLOTS) × (0 < length words → spaced 6 words ≡ true) × EndsInTime first step words
+    (length words ≤ MOST_SLOTS) × (0 < length words → spaced MOST_EMPTY words ≡ true) × EndsInTime first step words
 
 -- the bytes are a page's
 abbrev pub IsSlotPage : ℕ → ℕ → List ℕ → Type 0

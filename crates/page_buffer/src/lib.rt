@@ -26,6 +26,6 @@ mod words;
 
 pub use fault::PageFault;
 pub use law::{pushes_make_all_records, pushes_make_all_slots};
-pub use record_page::RecordPage;
+pub use record_page::{MOST_RECORDS, RecordPage};
 pub use records::RECORD_SIZE;
-pub use slot_page::SlotPage;
+pub use slot_page::{MOST_EMPTY, MOST_SLOTS, SlotPage};

@@ -13,7 +13,7 @@ use page_pool::RawPage;
 use std::marker::Model;
 
 /// The most records of a page.
-pub(crate) const MOST_RECORDS: usize = 73;
+pub const MOST_RECORDS: usize = 73;
 
 /// The records of a series, one for each step.
 #[derive(Drop)]

@@ -12,7 +12,10 @@ use page_pool::RawPage;
 use std::marker::Model;
 
 /// The most slots of a page.
-pub(crate) const MOST_SLOTS: usize = 1_024;
+pub const MOST_SLOTS: usize = 1_024;
+
+/// The most empty slots in a row.
+pub const MOST_EMPTY: u32 = 6;
 
 /// The points of a series, a word in the slot of each step, with 0 in a slot that is empty.
 #[derive(Drop)]
@@ -38,15 +41,15 @@ impl Model for SlotPage {
     ghost invariant = { λ page. (0 < page.step) × AreSlots page.first page.step page.words };
 }
 
-/// Whether at most six slots in a row are empty, and the first and the last are not.
+/// Whether at most `MOST_EMPTY` slots in a row are empty, and the first and the last are not.
 fn are_spaced(words: &Words) -> bool
-    ensures { result ≡ spaced 6 words.now }
+    ensures { result ≡ spaced MOST_EMPTY words.now }
 {
-    let mut empty = 6_u32;
+    let mut empty = MOST_EMPTY;
     for place in 0..words.len() {
         if words.get(place) != 0 {
             empty = 0;
-        } else if empty < 6 {
+        } else if empty < MOST_EMPTY {
             empty += 1;
         } else {
             return false;

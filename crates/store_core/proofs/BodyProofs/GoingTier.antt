@@ -18,7 +18,7 @@ use Rattle.beat_tiers.proofs.Halves.{all_left}
 use Rattle.beat_tiers.proofs.SoundTier.{all-right}
 use Rattle.checkpoint_body.specs.declared.body.Extent.{Extent}
 use Rattle.store_core.specs.disk.Next.{Written}
-use Rattle.extent_file.specs.declared.sizes.TheConstants.{MOST_SLOTS}
+use Rattle.tier_settings.specs.declared.limits.TheConstants.{MOST_EXTENTS}
 use Rattle.tier_settings.specs.declared.tier.Tier.{Tier}
 use Rattle.store_core.specs.bodies.Next.{beats_before, count_found, pages_after, sealed_after, AreCounted, AreNext, CanBeNamed, CanBePages, HasOneNew, IsNew}
 use Rattle.store_core.specs.bodies.Reading.{AreSegmentsIn, IsInOrder}
@@ -55,7 +55,7 @@ module _ {T : Type 0} where
 -- A tier of a body has gone on, and is in form.
 pub record IsGoing {T : Type 0} (IsItem : Item T → Type 0) (count_in : List (Item T) → ℕ) (tier : Tier) (moment : ℕ) (extents : List Extent) (was now : KeptItems T) : Type 0 where
   pub items : tier.items ≤ 262144
-  pub kept : tier.extents ≤ MOST_SLOTS
+  pub kept : tier.extents ≤ MOST_EXTENTS
   pub named : length extents ≤ tier.extents
   pub most : length now.sealed ≤ tier.extents
   pub few : length now.unsealed < tier.items

@@ -7,10 +7,9 @@ use Rattle.std.proofs.lemmas.List.Concat.{flat_map-cons}
 use Rattle.std.proofs.lemmas.List.Elements.{All-from_recursion}
 use Rattle.std.proofs.lemmas.List.Sums.{sum_by-cons}
 use Rattle.checkpoint_body.specs.declared.page.SlotPage.{SlotPage}
-use Rattle.checkpoint_body.specs.Canonical.{are_in_order, is_slot_page, point_count, slot_span, spaced}
+use Rattle.checkpoint_body.specs.Canonical.{are_in_order, is_slot_page, point_count, slot_span}
 use Rattle.checkpoint_body.specs.Fields.{FitsSlotPage}
 use Rattle.checkpoint_body.specs.Slots.{points_from, points_in, points_of, slot_page_size, slot_pages_size}
-use Rattle.page_buffer.specs.Slots.{spaced as spaced_in_page}
 use Rattle.extent_file.specs.Directory.{bytes_of}
 use Rattle.extent_file.specs.Pages.{entry_of, extent_size, items_of, ArePages}
 use Rattle.store_core.specs.disk.Holds.{page_of_slots}
@@ -51,14 +50,9 @@ in_order left (page ∷ next ∷ pages) run =
 
 -- ---- the form of an extent
 
-spaced_alike : (empty : ℕ) (words : List ℕ) → spaced_in_page empty words ≡ spaced empty words
-spaced_alike empty [] = refl
-spaced_alike empty (zero ∷ words) = ap (λ (b : Bool). ltb empty 6 && b) (spaced_alike (empty + 1) words)
-spaced_alike empty (suc word ∷ words) = spaced_alike 0 words
-
 page_formed : (page : SlotPage) → IsPage page → IsFormed (page_of_slots page)
 page_formed page is =
-    (omega (arith, is.least), (is.few, (λ some. spaced_alike 6 page.words ∙ is.spread), (λ some. is.ends)))
+    (omega (arith, is.least), (is.few, (λ some. is.spread), (λ some. is.ends)))
 
 all_formed : (pages : List SlotPage) → AllByRecursion IsPage pages → AllByRecursion IsFormed (map page_of_slots pages)
 all_formed [] are = tt

@@ -10,7 +10,7 @@ use Rattle.beat_tiers.specs.declared.item.Item.{Item}
 use Rattle.beat_tiers.specs.declared.item.Stepped.{Stepped}
 use Rattle.checkpoint_body.specs.declared.item.Point.{Point}
 use Rattle.checkpoint_body.specs.declared.page.SlotPage.{SlotPage}
-use Rattle.checkpoint_body.specs.Canonical.{spaced}
+use Rattle.page_buffer.specs.Slots.{spaced}
 use Rattle.checkpoint_body.specs.Fields.{FitsWord}
 use Rattle.checkpoint_body.specs.Slots.{slot_page_of, slot_pages, with_point, with_word}
 use Rattle.checkpoint_body.proofs.SlotLemmas.{takes_is}

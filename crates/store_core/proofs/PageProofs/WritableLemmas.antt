@@ -9,7 +9,7 @@ use Rattle.beat_tiers.specs.declared.item.Stepped.{Stepped}
 use Rattle.beat_tiers.specs.Tiers.{AreOrdered}
 use Rattle.checkpoint_body.specs.declared.page.RecordPage.{RecordPage}
 use Rattle.checkpoint_body.specs.declared.page.SlotPage.{SlotPage}
-use Rattle.extent_file.specs.declared.sizes.TheConstants.{MOST_SLOTS}
+use Rattle.tier_settings.specs.declared.limits.TheConstants.{MOST_EXTENTS}
 use Rattle.extent_file.specs.Directory.{at_first}
 use Rattle.extent_file.specs.Pages.{extent_size, ArePages}
 use Rattle.store_core.specs.disk.Holds.{page_of_records, page_of_slots}
@@ -19,7 +19,7 @@ use Rattle.store_core.proofs.PageProofs.OneOrder.{one_order}
 use Rattle.store_core.proofs.PageProofs.RecordForms.{record_size}
 
 pub slots_writable : (most slot : ℕ) (items : List (Item Stepped)) (pages : List SlotPage) → AreSlotPagesOf items pages
-    → length items < most + 65536 → slot ≤ MOST_SLOTS → IsWritable 0 most (record { slot = slot; pages = map page_of_slots pages })
+    → length items < most + 65536 → slot ≤ MOST_EXTENTS → IsWritable 0 most (record { slot = slot; pages = map page_of_slots pages })
 slots_writable most slot items pages are few low = record {
   slot = low;
   formed = are.formed;
@@ -28,7 +28,7 @@ slots_writable most slot items pages are few low = record {
 }
 
 pub records_writable : (tier width most slot : ℕ) (items : List (Item Record)) (pages : List RecordPage) → 0 < tier → AreRecordPagesOf tier width items pages
-    → length items < most + 65536 → slot ≤ MOST_SLOTS → IsWritable tier most (record { slot = slot; pages = map page_of_records pages })
+    → length items < most + 65536 → slot ≤ MOST_EXTENTS → IsWritable tier most (record { slot = slot; pages = map page_of_records pages })
 records_writable tier width most slot items pages above are few low =
     let size : extent_size tier (map page_of_records pages) ≤ 24 + (most + 65536) * (24 + 56) = omega (arith, are.size, few) in
     record {

@@ -23,7 +23,7 @@ use Rattle.store_core.specs.declared.disk.sealed.SlotExtent.{SlotExtent}
 use Rattle.store_core.specs.disk.Contents.{KeptPages}
 use Rattle.store_core.specs.disk.Next.{written_records, written_slots, Written}
 use Rattle.store_core.specs.disk.Slots.{IsUnused}
-use Rattle.extent_file.specs.declared.sizes.TheConstants.{MOST_SLOTS}
+use Rattle.tier_settings.specs.declared.limits.TheConstants.{MOST_EXTENTS}
 use Rattle.extent_file.specs.Pages.{extent_size}
 use Rattle.store_core.specs.pages.Pages.{AreRecordPagesOf, AreSlotPagesOf}
 use Rattle.store_core.specs.bodies.Reading.{no_beats_in}
@@ -58,8 +58,8 @@ module _ {T : Type 0} where
 
   -- the next body can be made of what is kept, where the open one names these extents
   pub record CanBeNamed (IsItem : Item T → Type 0) (moment : ℕ) (extents : List Extent) (now : KeptItems T) : Type 0 where
-    pub slots : length extents ≤ MOST_SLOTS
-    pub most : length now.sealed ≤ MOST_SLOTS
+    pub slots : length extents ≤ MOST_EXTENTS
+    pub most : length now.sealed ≤ MOST_EXTENTS
     pub new : IfSome (sealed_after moment now.sealed) (λ segment. CanBePages IsItem segment.items)
     pub unsealed : CanBePages IsItem now.unsealed
 

@@ -5,7 +5,7 @@ use Rattle.page_buffer.specs.Records.{AreRecords}
 use Rattle.page_buffer.specs.Slots.{AreSlots}
 use Rattle.extent_file.specs.declared.page.Page.{Page}
 use Rattle.extent_file.specs.declared.page.Page.TheVariants.{Slots, Records}
-use Rattle.extent_file.specs.declared.sizes.TheConstants.{MOST_SLOTS}
+use Rattle.tier_settings.specs.declared.limits.TheConstants.{MOST_EXTENTS}
 use Rattle.extent_file.specs.Directory.{at_first}
 use Rattle.extent_file.specs.Pages.{ArePages, extent_size}
 use Rattle.extent_file.specs.Slot.{slot_size}
@@ -36,7 +36,7 @@ written_records one = record { slot = one.slot; pages = map page_of_records one.
 
 -- it may be written, wherever its slot is: the pages have their form and their order, and fit the slot
 pub record IsWritable (tier items : ℕ) (one : Written) : Type 0 where
-  pub slot : one.slot ≤ MOST_SLOTS
+  pub slot : one.slot ≤ MOST_EXTENTS
   pub formed : All IsFormed one.pages
   pub pages : ArePages tier (at_first (length one.pages)) one.pages
   pub fits : extent_size tier one.pages ≤ slot_size tier items

@@ -2,7 +2,7 @@
 use Rattle.std.specs.Prelude.{◌≡◌, ◌⊎◌, ℕ, ◌≤◌, List, [], ◌∷◌, take, drop}
 use Rattle.extent_file.specs.declared.entry.Entry.{Entry}
 use Rattle.extent_file.specs.declared.page.Page.{Page}
-use Rattle.extent_file.specs.declared.sizes.TheConstants.{MOST_SLOTS}
+use Rattle.tier_settings.specs.declared.limits.TheConstants.{MOST_EXTENTS}
 use Rattle.extent_file.specs.Directory.{bytes_of}
 use Rattle.extent_file.specs.Pages.{entry_of, IsItemsOf}
 use Rattle.checkpoint_body.specs.declared.body.Extent.{Extent}
@@ -23,7 +23,7 @@ AreNamed tier bytes (entry ∷ entries) (page ∷ pages) = IsNamed tier bytes en
 
 -- its slot is one that a tier may have
 abbrev pub HasSlot : Extent → Type 0
-HasSlot extent = extent.slot ≤ MOST_SLOTS
+HasSlot extent = extent.slot ≤ MOST_EXTENTS
 
 -- why an extent is not read
 abbrev pub IsExtentFault : FilesFault → Type 0

@@ -1,7 +1,7 @@
 //! The extents that the next body names.
 ghost use Rattle.std.specs.Prelude.{◌≡◌, ◌-◌, ◌<◌, ◌≤◌, ◌^◌, drop, length, option_copied, IfOk};
 ghost use Rattle.checkpoint_body.specs.Fields.{FitsExtent};
-ghost use Rattle.extent_file.specs.declared.sizes.TheConstants.{MOST_SLOTS};
+ghost use Rattle.tier_settings.specs.declared.limits.TheConstants.{MOST_EXTENTS};
 ghost use Rattle.store_core.specs.bodies.Next.{beats_before, sealed_after, FitCounts};
 
 use beat_tiers::{Sealed, Segments};
@@ -53,7 +53,7 @@ pub fn sealed_after<T: Copy + Drop>(segments: &Segments<T>, moment: u32) -> Opti
 
 /// How many sealed segments a tier keeps.
 pub(crate) fn sealed_count<T: Copy + Drop>(segments: &Segments<T>) -> usize
-    requires { length segments.now.kept.sealed ≤ MOST_SLOTS }
+    requires { length segments.now.kept.sealed ≤ MOST_EXTENTS }
     ensures { result ≡ length segments.now.kept.sealed }
 {
     let (earlier, later) = segments.sealed();

@@ -3,7 +3,7 @@ ghost use Rattle.std.specs.Prelude.{◌≡◌, ◌-◌, ◌<◌, ◌≤◌, ◌^
 ghost use Rattle.beat_tiers.specs.Sound.{IsPointItem};
 ghost use Rattle.store_core.specs.disk.Holds.{page_of_slots};
 ghost use Rattle.store_core.specs.disk.Next.{written_slots};
-ghost use Rattle.extent_file.specs.declared.sizes.TheConstants.{MOST_SLOTS};
+ghost use Rattle.tier_settings.specs.declared.limits.TheConstants.{MOST_EXTENTS};
 ghost use Rattle.extent_file.specs.Pages.{items_of};
 ghost use Rattle.store_core.specs.pages.Pages.{AreSlotPagesOf};
 ghost use Rattle.store_core.specs.bodies.Next.{pages_of_slots, AreNextPoints, CanBeNamed, CanBePages, IsNew, IsNextPointTier};
@@ -40,7 +40,7 @@ fn new_points(
     before: u64,
     segment: &Sealed<Stepped>,
 ) -> Result<(Extent, SlotExtent), AllocError>
-    requires slots { length old.now ≤ MOST_SLOTS }
+    requires slots { length old.now ≤ MOST_EXTENTS }
     requires items { CanBePages IsPointItem segment.now.items }
     ensures { IfOk result (λ made. IsNew 0 written_slots pages_of_slots AreSlotPagesOf beats_in
         old.now number before segment.now made.0 made.1) }

@@ -5,7 +5,7 @@ ghost use Rattle.beat_tiers.specs.Room.{records_held};
 ghost use Rattle.checkpoint_body.specs.Fields.{FitsOpenRecord};
 ghost use Rattle.store_core.specs.disk.Holds.{page_of_records};
 ghost use Rattle.store_core.specs.disk.Next.{written_records};
-ghost use Rattle.extent_file.specs.declared.sizes.TheConstants.{MOST_SLOTS};
+ghost use Rattle.tier_settings.specs.declared.limits.TheConstants.{MOST_EXTENTS};
 ghost use Rattle.extent_file.specs.Pages.{items_of};
 ghost use Rattle.store_core.specs.pages.Items.{IsRecordItem};
 ghost use Rattle.store_core.specs.pages.Pages.{AreRecordPagesOf};
@@ -45,7 +45,7 @@ fn new_records(
 ) -> Result<(Extent, RecordExtent), AllocError>
     requires tier { 0 < tier }
     requires width { 0 < width }
-    requires slots { length old.now ≤ MOST_SLOTS }
+    requires slots { length old.now ≤ MOST_EXTENTS }
     requires items { CanBePages (IsRecordItem width) segment.now.items }
     ensures { IfOk result (λ made. IsNew tier written_records pages_of_records
         (AreRecordPagesOf tier width) no_beats_in old.now number 0 segment.now made.0 made.1) }

@@ -23,7 +23,7 @@ use crate::disk::reading::{Kept, open_extent, read_record_page, read_slot_page};
 use crate::disk::slots::has_own_slots;
 use crate::disk::tier::items_of;
 use checkpoint_body::{Body, Extent, RecordPage, RecordPageList, SlotPage, SlotPageList};
-use extent_file::{Extent as OpenExtent, MOST_ITEMS};
+use extent_file::Extent as OpenExtent;
 use fixed_num::ListOf;
 use host_model::{File, Host};
 use journal_core::RecordList;

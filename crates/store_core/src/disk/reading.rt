@@ -22,7 +22,7 @@ use crate::disk::items::{records_in, words_in};
 use crate::disk::slots::has_own_slots;
 use crate::disk::tier::items_of;
 use checkpoint_body::{Body, Extent, RecordPage, RecordPageList, SlotPage, SlotPageList};
-use extent_file::{Extent as OpenExtent, MOST_ITEMS};
+use extent_file::Extent as OpenExtent;
 use fixed_num::ListOf;
 use host_model::{File, Host};
 use page_buffer::{RecordPage as PageOfRecords, SlotPage as PageOfSlots};

@@ -1,5 +1,5 @@
 ghost use Rattle.std.specs.Prelude.{◌≡◌, ◌≤◌};
-ghost use Rattle.extent_file.specs.declared.sizes.TheConstants.{MOST_ITEMS};
+ghost use Rattle.tier_settings.specs.declared.limits.TheConstants.{MOST_ITEMS};
 ghost use Rattle.checkpoint_body.specs.Body.{HasSpelling};
 ghost use Rattle.store_core.specs.disk.Holds.{items_of};
 

@@ -6,7 +6,7 @@ ghost use Rattle.host_model.specs.Past.{of};
 ghost use Rattle.host_model.specs.Cause.{HasCause};
 ghost use Rattle.host_model.specs.Moments.{Throughout, EveryImage, OnlyOn};
 ghost use Rattle.extent_file.specs.Slot.{IsTierFile, slot_size, slot_start, tier_of};
-ghost use Rattle.extent_file.specs.declared.sizes.TheConstants.{MOST_ITEMS};
+ghost use Rattle.tier_settings.specs.declared.limits.TheConstants.{MOST_ITEMS};
 ghost use Rattle.store_core.specs.disk.Next.{AreApart, IsWritable, Written};
 ghost use Rattle.store_core.specs.disk.Shares.{EndWithin};
 ghost use Rattle.store_core.specs.disk.Standing.{AllStand, AreBeside, StandsIn};

@@ -12,7 +12,7 @@ ghost use Rattle.checkpoint_body.specs.Records.{EndsInTime as RecordsEndInTime, 
 ghost use Rattle.checkpoint_body.specs.Slots.{EndsInTime as SlotsEndInTime};
 ghost use Rattle.store_core.specs.disk.Holds.{page_of_records, page_of_slots};
 ghost use Rattle.store_core.specs.disk.Next.{IsWritable};
-ghost use Rattle.extent_file.specs.declared.sizes.TheConstants.{MOST_SLOTS};
+ghost use Rattle.tier_settings.specs.declared.limits.TheConstants.{MOST_EXTENTS};
 ghost use Rattle.store_core.specs.pages.Items.{HaveItems, HaveRecords};
 ghost use Rattle.store_core.specs.pages.Pages.{AreRecordPagesOf, AreSlotPagesOf};
 
@@ -28,11 +28,11 @@ pub fn pages_determine_their_items()
         → AreOrdered one → AreOrdered other → HaveRecords pages one → HaveRecords pages other
         → one ≡ other }
     ensures writable { (most slot : ℕ) (items : List (AnItem AStepped)) (pages : List ASlotPage)
-        → AreSlotPagesOf items pages → length items < most + MOST_SERIES → slot ≤ MOST_SLOTS
+        → AreSlotPagesOf items pages → length items < most + MOST_SERIES → slot ≤ MOST_EXTENTS
         → IsWritable 0 most (record { slot = slot; pages = map page_of_slots pages }) }
     ensures writable_records { (tier width most slot : ℕ) (items : List (AnItem ARecord))
         (pages : List ARecordPage) → 0 < tier → AreRecordPagesOf tier width items pages
-        → length items < most + MOST_SERIES → slot ≤ MOST_SLOTS
+        → length items < most + MOST_SERIES → slot ≤ MOST_EXTENTS
         → IsWritable tier most (record { slot = slot; pages = map page_of_records pages }) }
     ensures ends_in_time { (pages : List ASlotPage) → list_all is_slot_page pages ≡ true
         → All SlotsEndInTime pages }
