@@ -38,6 +38,7 @@ pub use fault::SideFault;
 pub use gap::{GapSpan, GapSpanList};
 pub use last_point::{LastPoint, LastPointList};
 pub use law::sides_round_trip;
+pub use limits::{ALARM_NAME_LIMIT, HEALTH_TEXT_LIMIT};
 pub use reading::read_side;
 pub use role::SideRole;
 pub use short::is_short;

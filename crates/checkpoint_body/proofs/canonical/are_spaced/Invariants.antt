@@ -1,5 +1,5 @@
 use Rattle.std.proofs.Common.{◌≡◌, ◌≤◌, drop}
-use Rattle.checkpoint_body.specs.Canonical.{spaced}
+use Rattle.page_buffer.specs.Slots.{spaced}
 use Rattle.checkpoint_body.proofs.canonical.are_spaced.Given as goal
 
 -- the rest of the words decides
