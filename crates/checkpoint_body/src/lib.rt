@@ -17,8 +17,8 @@
 //! with the items that are read, so that a count takes no memory by itself.
 //!
 //! It stands on `field_codec` for the fields and lists, on `tier_settings` for the settings and
-//! their limits, and on `fixed_num` for records and lists. A word of a page may be any number. It
-//! knows no disk.
+//! their limits, on `page_buffer` for how much a page holds, and on `fixed_num` for records and
+//! lists. A word of a page may be any number. It knows no disk.
 #![tactic(auto)]
 
 mod body;
