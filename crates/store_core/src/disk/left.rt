@@ -9,6 +9,7 @@ ghost use Rattle.host_model.specs.Cause.{HasCause};
 ghost use Rattle.checkpoint.specs.Files.{checkpoint_in};
 ghost use Rattle.checkpoint_body.specs.Body.{HasSpelling};
 ghost use Rattle.extent_file.specs.Slot.{tier_of};
+ghost use Rattle.tier_settings.specs.declared.limits.TheConstants.{MOST_ITEMS};
 ghost use Rattle.store_core.specs.Damaged.{IsDamagedIn};
 ghost use Rattle.store_core.specs.disk.Files.{IsReady};
 ghost use Rattle.store_core.specs.disk.Formed.{AllFormed, AreFormed, HasFiles, IsFormed};

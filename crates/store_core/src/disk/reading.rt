@@ -11,6 +11,7 @@ ghost use Rattle.extent_file.specs.Slot.{IsTierFile, slot_size, slot_start, tier
 ghost use Rattle.checkpoint_body.specs.declared.page.RecordPage.{RecordPage as ARecordPage};
 ghost use Rattle.checkpoint_body.specs.declared.page.SlotPage.{SlotPage as ASlotPage};
 ghost use Rattle.checkpoint_body.specs.Body.{HasSpelling};
+ghost use Rattle.tier_settings.specs.declared.limits.TheConstants.{MOST_ITEMS};
 ghost use Rattle.store_core.specs.disk.Contents.{KeptPages};
 ghost use Rattle.store_core.specs.disk.Holds.{page_of_records, page_of_slots, AreKept, LiesAs, Lie};
 ghost use Rattle.store_core.specs.disk.Kept.{pages_of, HasPagesOfEach};
