@@ -27,6 +27,7 @@ pub mod KeptLemmas
 pub mod KeptWords
 pub mod LastSeenLemmas
 pub mod LimitLemmas
+pub mod LineCalls
 pub mod Lists
 pub mod NamedLemmas
 pub mod NewLemmas

@@ -6,7 +6,6 @@ use Rattle.host_model.specs.Disks.{EveryDisk}
 use Rattle.host_model.specs.Moments.{begins, Throughout}
 use Rattle.history.specs.declared.beat.OpenBeat.{OpenBeat}
 use Rattle.history.specs.declared.fault.BlockFault.{BlockFault}
-use Rattle.history.specs.declared.fault.BlockFault.TheVariants as block
 use Rattle.history.specs.declared.line.Line.{Line}
 use Rattle.history.specs.declared.line.Line.TheVariants.{Disable, Moment, Query}
 use Rattle.history.specs.History.{Beat}
@@ -17,7 +16,6 @@ use Rattle.collect_block.specs.declared.feed.Feed.{Feed}
 use Rattle.collect_block.specs.declared.step.Step.{Step}
 use Rattle.collect_block.specs.declared.step.Step.TheVariants as step
 use Rattle.collect_block.specs.Feed.{step_of, Becomes, CountsAt, CountsFor, CountsPast, IsFeedOf}
-use Rattle.collect_block.specs.Feed as block_feed
 use Rattle.tier_settings.specs.declared.settings.Settings.{Settings}
 use Rattle.store_core.specs.declared.fault.Why.{Why}
 use Rattle.store_core.specs.declared.fault.Why.TheVariants as why
@@ -386,6 +384,10 @@ module _ (honest : Type 0) (host host' : Seen) (agent agent' : AgentState) (feed
 abbrev pub short_of : AgentState → AgentState
 short_of agent = record agent { fault = Some why.Memory }
 
+-- an agent that was going, once it has noted no cause
+pub going-on : (agent : AgentState) → agent.fault ≡ None → agent ≡ record agent { fault = None }
+going-on agent going = ap (λ (fault : Option Why). record agent { fault = fault }) going
+
 module _ (honest : Type 0) (host : Seen) (agent : AgentState) (feed feed' : Feed) (line : Line) (fed : IsFed feed) (same : feed' ≡ feed) where
   abbrev failed : AgentFault → Result Said AgentFault
   failed fault = Err fault
@@ -471,8 +473,3 @@ module _ (honest : Type 0) (host : Seen) (agent : AgentState) (feed feed' : Feed
     only_here = λ true_host. record { others = λ other far. refl; output = refl };
     tells = refl;
   }
-
--- why the feed refused it
-pub refused-reason : (reason : Option BlockFault) (fault : BlockFault) → block_feed.RefusedBy reason fault → fault ≢ block.Memory → reason ≡ Some fault
-refused-reason reason block.Memory why other = absurd (other refl)
-refused-reason reason fault why other = why

@@ -2,11 +2,14 @@
 use Rattle.std.specs.Prelude.{◌≡◌, ◌⊎◌, ◌≤◌, Option, Some, None, Result, Ok, Err}
 use Rattle.alarm_core.specs.declared.fault.AlarmFault.{AlarmFault}
 use Rattle.alarm_core.specs.declared.fault.AlarmFault.TheVariants as alarms
+use Rattle.beat_entries.specs.declared.beat_fault.BeatFault.{BeatFault}
+use Rattle.beat_entries.specs.declared.beat_fault.BeatFault.TheVariants as beat
 use Rattle.beat_entries.specs.declared.refusal.EntryRefusal.{EntryRefusal}
 use Rattle.beat_entries.specs.declared.refusal.EntryRefusal.TheVariants as refusal
 use Rattle.entry_codec.specs.declared.fault.EntryFault.{EntryFault}
 use Rattle.entry_codec.specs.declared.fault.EntryFault.TheVariants as entry
 use Rattle.health_config.specs.declared.fault.ConfigFault.{ConfigFault}
+use Rattle.health_config.specs.declared.fault.ConfigFault.TheVariants as config
 use Rattle.history.specs.declared.fault.BlockFault.{BlockFault}
 use Rattle.history.specs.declared.fault.BlockFault.TheVariants as block
 use Rattle.query_engine.specs.declared.fault.PointFault.{PointFault}
@@ -29,6 +32,21 @@ fault_of (store.MomentOrder last) = Refused (block.MomentOrder last)
 fault_of (store.Reopen cause) = Reopen cause
 fault_of store.Exists = Exists
 fault_of store.Memory = Memory
+
+-- what it is for an agent that a beat was not taken
+abbrev pub of_beat : BeatFault → AgentFault
+of_beat (beat.Refused reason) = Refused reason
+of_beat beat.Memory = Memory
+
+-- what it is for an agent that a line was not taken
+abbrev pub of_block : BlockFault → AgentFault
+of_block block.Memory = Memory
+of_block reason = Refused reason
+
+-- what it is for an agent that a health text was not read
+abbrev pub of_config : ConfigFault → AgentFault
+of_config config.Memory = Memory
+of_config reason = Health reason
 
 -- what it is for an agent that an entry of its store was not taken
 abbrev pub unread : EntryRefusal → AgentFault

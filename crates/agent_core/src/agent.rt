@@ -1,4 +1,4 @@
-ghost use Rattle.std.specs.Prelude.{◌≡◌, ◌<◌, ◌≤◌, ◌⊎◌, ◌∷◌, ℕ, List, None, true, false, IfOk, IfErr, OnOk, OnErr};
+ghost use Rattle.std.specs.Prelude.{◌≡◌, ◌<◌, ◌≤◌, ◌⊎◌, ◌∷◌, ℕ, List, None, Err, true, false, IfOk, IfErr, OnOk, OnErr};
 ghost use Rattle.host_model.specs.Past.{Event};
 ghost use Rattle.host_model.specs.Disks.{EveryDisk};
 ghost use Rattle.host_model.specs.Moments.{Throughout};
@@ -17,7 +17,7 @@ ghost use Rattle.alarm_core.specs.UpTo.{IsUpTo};
 ghost use Rattle.agent_core.specs.Alarms.{events_at, DefinesNothing, IsSteppingOf};
 ghost use Rattle.agent_core.specs.Calls.{Beats, Creates, Lines, Logs, Opens, SetsHealth};
 ghost use Rattle.agent_core.specs.Fed.{IsFed};
-ghost use Rattle.agent_core.specs.Faults.{fault_after, IsUnreplayed};
+ghost use Rattle.agent_core.specs.Faults.{cause_of, fault_after, of_block, IsUnreplayed};
 ghost use Rattle.agent_core.specs.Stands.{HoldsHistory, StandsForHistory};
 ghost use Rattle.agent_core.specs.Left.{AwaitsAlarms, IsLeftBy};
 ghost use Rattle.agent_core.specs.Notes.{notes_go_on};
@@ -44,10 +44,10 @@ use crate::replaying::{open_store, replay_all};
 use crate::reply::{Reply, Said};
 use crate::side::{read_left, write_left};
 use alarm_core::Log;
-use beat_entries::{BeatFault, define_beat, judge_beat};
+use beat_entries::{define_beat, judge_beat};
 use chart_registry::Registry;
 use collect_block::{Feed, Step};
-use health_config::{Config, ConfigFault};
+use health_config::Config;
 use history::{BlockFault, Line, NumberedBeat, OpenBeat};
 use host_model::Host;
 use std::alloc::Global;
@@ -154,10 +154,8 @@ impl Agent {
         ensures { Opens H.honest (H.seen host.old)
             result (H.seen host.new) }
     {
-        match open_store(alloc, host) {
-            Ok(store) => Agent::replayed(alloc, store, host),
-            Err(fault) => Err(fault),
-        }
+        let store = open_store(alloc, host)?;
+        Agent::replayed(alloc, store, host)
     }
 
     /// The agent of a store that was just opened, once all its beats are replayed.
@@ -213,20 +211,12 @@ impl Agent {
         ensures { Lines H.honest (H.seen host.old) self.old feed.old
             line.now result (H.seen host.new) self.new feed.new }
     {
-        if let Some(earlier) = self.fault {
-            return Err(AgentFault::Reopen(earlier));
+        if let Some(cause) = self.fault {
+            return Err(AgentFault::Reopen(cause));
         }
         let copies = self.left.role.copies();
-        match feed.line(&self.left.registry, self.last, copies, line) {
-            Ok(step) => self.take_step(host, step),
-            Err(fault) => match fault {
-                BlockFault::Memory => {
-                    self.fault = Some(Why::Memory);
-                    Err(AgentFault::Memory)
-                }
-                reason => Err(AgentFault::Refused(reason)),
-            },
-        }
+        let fed = feed.line(&self.left.registry, self.last, copies, line);
+        self.take_fed(host, fed)
     }
 
     /// The same of a line that is given away: its texts are kept and not copied.
@@ -242,19 +232,37 @@ impl Agent {
         ensures { Lines H.honest (H.seen host.old) self.old feed.old
             line result (H.seen host.new) self.new feed.new }
     {
-        if let Some(earlier) = self.fault {
-            return Err(AgentFault::Reopen(earlier));
+        if let Some(cause) = self.fault {
+            return Err(AgentFault::Reopen(cause));
         }
         let copies = self.left.role.copies();
-        match feed.take_line(&self.left.registry, self.last, copies, line) {
+        let fed = feed.take_line(&self.left.registry, self.last, copies, line);
+        self.take_fed(host, fed)
+    }
+
+    /// Does what a feed made of a line: a step, or its fault.
+    fn take_fed<H: Host>(
+        &mut self,
+        host: &mut H,
+        fed: Result<Step, BlockFault>,
+    ) -> Result<Said, AgentFault>
+        requires ready { AgentIsReady H.honest (H.seen host.old).past self.old }
+        requires going { self.old.fault ≡ None }
+        requires is_open { IfOk fed IsOpenStep }
+        ensures took { IfOk fed (λ step. Takes H.honest (H.seen host.old) self.old
+            step result (H.seen host.new) self.new) }
+        ensures told { IfErr fed (λ fault. result ≡ Err (of_block fault)) }
+        ensures spent { IfErr fed
+            (λ fault. self.new ≡ record self.old { fault = cause_of (of_block fault) }) }
+        ensures host { OnErr fed (H.seen host.new ≡ H.seen host.old) }
+    {
+        match fed {
             Ok(step) => self.take_step(host, step),
-            Err(fault) => match fault {
-                BlockFault::Memory => {
-                    self.fault = Some(Why::Memory);
-                    Err(AgentFault::Memory)
-                }
-                why => Err(AgentFault::Refused(why)),
-            },
+            Err(fault) => {
+                let fault = AgentFault::from(fault);
+                self.fault = fault.cause();
+                Err(fault)
+            }
         }
     }
 
@@ -269,14 +277,8 @@ impl Agent {
         match step {
             Step::Nothing => Ok(Said::Nothing),
             Step::Disabled => Ok(Said::Disabled),
-            Step::Beat(beat, moment) => match self.beat(host, &beat, moment) {
-                Ok(reply) => Ok(Said::Stored(reply)),
-                Err(fault) => Err(fault),
-            },
-            Step::Query(text) => match self.query(host, text.as_str()) {
-                Ok(reply) => Ok(Said::Table(reply)),
-                Err(fault) => Err(fault),
-            },
+            Step::Beat(beat, moment) => Ok(Said::Stored(self.beat(host, &beat, moment)?)),
+            Step::Query(text) => Ok(Said::Table(self.query(host, text.as_str())?)),
         }
     }
 
@@ -307,10 +309,10 @@ impl Agent {
             beat,
         ) {
             Ok(numbered) => numbered,
-            Err(BeatFault::Refused(reason)) => return Err(AgentFault::Refused(reason)),
-            Err(BeatFault::Memory) => {
-                self.fault = Some(Why::Memory);
-                return Err(AgentFault::Memory);
+            Err(fault) => {
+                let fault = AgentFault::from(fault);
+                self.fault = fault.cause();
+                return Err(fault);
             }
         };
         match self.add_beat(host, &numbered) {
@@ -447,11 +449,11 @@ impl Agent {
         }
         let config = match Config::read(self.alloc, text) {
             Ok(config) => config,
-            Err(ConfigFault::Memory) => {
-                self.fault = Some(Why::Memory);
-                return Err(AgentFault::Memory);
+            Err(fault) => {
+                let fault = AgentFault::from(fault);
+                self.fault = fault.cause();
+                return Err(fault);
             }
-            Err(fault) => return Err(AgentFault::Health(fault)),
         };
         match add_health(self.alloc, &mut self.store, &self.left, host, text) {
             Ok(()) => {

@@ -57,10 +57,7 @@ fn reply_to<H: Host>(
     ensures memory { IfErr result (λ fault. fault ≡ AgentFault.Memory) }
 {
     let table = table_of(alloc, store, host, request)?;
-    match write_table(alloc, request, registry, &table) {
-        Ok(text) => Ok(text),
-        Err(_) => Err(AgentFault::Memory),
-    }
+    Ok(write_table(alloc, request, registry, &table)?)
 }
 
 /// The line of a refusal.
@@ -68,10 +65,7 @@ fn refusal_line(alloc: Global, fault: QueryFault) -> Result<Text, AgentFault>
     ensures text { IfOk result (λ text. fault_text fault ≡ Some text) }
     ensures memory { IfErr result (λ fault. fault ≡ AgentFault.Memory) }
 {
-    match write_fault(alloc, fault) {
-        Ok(text) => Ok(text),
-        Err(_) => Err(AgentFault::Memory),
-    }
+    Ok(write_fault(alloc, fault)?)
 }
 
 /// The reply to a query.

@@ -398,14 +398,12 @@ pub(crate) fn kept_copy(
         dimensions,
         words.as_slice(),
     )?;
-    match write_entry(alloc, &entry) {
-        Ok(note) => Ok(Beat {
-            moment: Some(beat.moment),
-            points,
-            note,
-        }),
-        Err(fault) => Err(AgentFault::from(fault)),
-    }
+    let note = write_entry(alloc, &entry)?;
+    Ok(Beat {
+        moment: Some(beat.moment),
+        points,
+        note,
+    })
 }
 
 /// What a store keeps of a gap of a child: the moments above `from`, up to `to`.

@@ -1,13 +1,14 @@
 ghost use Rattle.std.specs.Prelude.{◌≡◌};
-ghost use Rattle.agent_core.specs.Faults.{fault_of, of_alarms, of_entry, of_points, of_side, unread};
+ghost use Rattle.agent_core.specs.Faults.{fault_of, of_alarms, of_beat, of_block, of_config, of_entry, of_points, of_side, unread};
 ghost use Rattle.agent_core.specs.declared.fault.AgentFault.TheVariants.{Memory};
 
 use alarm_core::AlarmFault;
-use beat_entries::EntryRefusal;
+use beat_entries::{BeatFault, EntryRefusal};
 use entry_codec::EntryFault;
 use health_config::ConfigFault;
 use history::BlockFault;
 use query_engine::PointFault;
+use query_text::QueryFault;
 use replication::CopyFault;
 use side_codec::SideFault;
 use std::alloc::{AllocError, AllocFailed};
@@ -92,6 +93,48 @@ impl From<CopyFault> for AgentFault {
     ghost from_gives = { λ _ fault. fault ≡ Memory };
 
     fn from(_error: CopyFault) -> AgentFault {
+        AgentFault::Memory
+    }
+}
+
+impl From<BeatFault> for AgentFault {
+    ghost from_gives = { λ fault given. given ≡ of_beat fault };
+
+    fn from(fault: BeatFault) -> AgentFault {
+        match fault {
+            BeatFault::Refused(reason) => AgentFault::Refused(reason),
+            BeatFault::Memory => AgentFault::Memory,
+        }
+    }
+}
+
+impl From<BlockFault> for AgentFault {
+    ghost from_gives = { λ fault given. given ≡ of_block fault };
+
+    fn from(fault: BlockFault) -> AgentFault {
+        match fault {
+            BlockFault::Memory => AgentFault::Memory,
+            reason => AgentFault::Refused(reason),
+        }
+    }
+}
+
+impl From<ConfigFault> for AgentFault {
+    ghost from_gives = { λ fault given. given ≡ of_config fault };
+
+    fn from(fault: ConfigFault) -> AgentFault {
+        match fault {
+            ConfigFault::Memory => AgentFault::Memory,
+            reason => AgentFault::Health(reason),
+        }
+    }
+}
+
+/// A query that is refused is answered by a line, so that only memory can be short.
+impl From<QueryFault> for AgentFault {
+    ghost from_gives = { λ _ fault. fault ≡ Memory };
+
+    fn from(_error: QueryFault) -> AgentFault {
         AgentFault::Memory
     }
 }

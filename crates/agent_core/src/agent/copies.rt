@@ -82,10 +82,8 @@ impl Agent {
         if let Some(reason) = copy_refusal(&self.left.registry, self.left.role, message) {
             return Err(AgentFault::Refused(reason));
         }
-        match self.add_copies(host, message) {
-            Ok(reply) => Ok((verdict, reply)),
-            Err(fault) => Err(fault),
-        }
+        let reply = self.add_copies(host, message)?;
+        Ok((verdict, reply))
     }
 
     /// What the agent makes of a message of a child.

@@ -19,7 +19,7 @@ use Rattle.agent_core.proofs.PointLemmas.{words-named}
 use Rattle.agent_core.proofs.WordLemmas.{all-stored, copied-points, sent-words, told-words, AreSentWords}
 use Rattle.agent_core.proofs.copying.kept_copy.Goals as goal
 
-module _ (c : goal.After-drop-words-in-Ok) where
+module _ (c : goal.After-drop-words-2) where
   -- the words of the beat by number
   sent : AreSentWords c.args.registry.now c.args.message.now.names c.args.beat.now c.in_ok-words.words.items
   sent =
@@ -46,10 +46,10 @@ module _ (c : goal.After-drop-words-in-Ok) where
       c.in_ok-entry.ensures.entry ∙ ap (λ (ws : List SeriesWord). made (map entry_word ws)) (c.as_slice-2.ensures.value ∙ sent.words_are)
       ∙ ap made (told-words (sent_words c.args.registry.now c.args.message.now c.args.beat.now))
 
-  note-is : c.in-Ok.note ≡ entry_bytes (entry.Copied (sent_entry c.args.registry.now c.args.message.now c.args.charts.now c.args.dimensions.now c.args.beat.now))
-  note-is = c.in-Ok.ensures.spelling ∙ ap entry_bytes entry-is
+  note-is : c.in_ok-note.note ≡ entry_bytes (entry.Copied (sent_entry c.args.registry.now c.args.message.now c.args.charts.now c.args.dimensions.now c.args.beat.now))
+  note-is = c.in_ok-note.ensures.spelling ∙ ap entry_bytes entry-is
 
-  note-short : length c.in-Ok.note ≤ 33579025
+  note-short : length c.in_ok-note.note ≤ 33579025
   note-short =
       let told = map told_word (sent_words c.args.registry.now c.args.message.now c.args.beat.now) in
       let same : length told ≡ length words = ap length (sym (told-words (sent_words c.args.registry.now c.args.message.now c.args.beat.now))) ∙ told-length ∙ ap length (sym sent.words_are) in
@@ -59,25 +59,25 @@ module _ (c : goal.After-drop-words-in-Ok) where
       told-length : length (map entry_word (map point_word (sent_words c.args.registry.now c.args.message.now c.args.beat.now))) ≡ length (map point_word (sent_words c.args.registry.now c.args.message.now c.args.beat.now))
       told-length = length-map (map point_word (sent_words c.args.registry.now c.args.message.now c.args.beat.now)) entry_word
 
-pub returns-in-Ok-clause-kept : goal.returns-in-Ok-clause-kept
-returns-in-Ok-clause-kept c =
+pub returns-clause-kept : goal.returns-clause-kept
+returns-clause-kept c =
     let whole : StoreBeat → StoreBeat = λ kept. kept in
     λ i. whole (record { moment = Some c.args.beat.now.moment; points = points-kept c i; note = note-is c i })
 
-pub returns-in-Ok-clause-spelt : goal.returns-in-Ok-clause-spelt
-returns-in-Ok-clause-spelt c = subst HasSpelling (entry-is c) c.in-Ok.ensures.written
+pub returns-clause-spelt : goal.returns-clause-spelt
+returns-clause-spelt c = subst HasSpelling (entry-is c) c.in_ok-note.ensures.written
 
-pub returns-in-Ok-clause-named : goal.returns-in-Ok-clause-named
-returns-in-Ok-clause-named c = ap (names_series c.args.registry.now) (points-are c) ∙ words-named c.args.registry.now (words c) (sent c).there
+pub returns-clause-named : goal.returns-clause-named
+returns-clause-named c = ap (names_series c.args.registry.now) (points-are c) ∙ words-named c.args.registry.now (words c) (sent c).there
 
-pub returns-in-Ok-clause-form : goal.returns-in-Ok-clause-form
-returns-in-Ok-clause-form c =
-    kept-form c.args.registry.now c.requires.registry (words c) (sent c).there (sent c).rising c.in_ok-points.points (points-are c) c.in-Ok.note (note-short c)
+pub returns-clause-form : goal.returns-clause-form
+returns-clause-form c =
+    kept-form c.args.registry.now c.requires.registry (words c) (sent c).there (sent c).rising c.in_ok-points.points (points-are c) c.in_ok-note.note (note-short c)
     c.args.beat.now.moment c.requires.later (search rules) c.in_ok-points.ensures.short
 
-pub returns-in-Ok-clause-size : goal.returns-in-Ok-clause-size
-returns-in-Ok-clause-size c =
-    kept-size c.args.registry.now c.requires.registry (words c) (sent c).there (sent c).rising c.in_ok-points.points (points-are c) c.in-Ok.note (note-short c)
+pub returns-clause-size : goal.returns-clause-size
+returns-clause-size c =
+    kept-size c.args.registry.now c.requires.registry (words c) (sent c).there (sent c).rising c.in_ok-points.points (points-are c) c.in_ok-note.note (note-short c)
     (Some c.args.beat.now.moment)
 
 -- ---- what its entry requires

@@ -1,5 +1,6 @@
-use Rattle.std.proofs.Common.{◌≡◌, ◌∷◌, ◌∙◌, ◌<◌, ℕ, Bool, List, Option, Some, None, Err, ap, refl, sym, subst}
+use Rattle.std.proofs.Common.{◌≡◌, ◌∷◌, ◌∙◌, ◌<◌, ℕ, Bool, List, Option, None, Err, ap, refl, sym, subst}
 use Rattle.std.proofs.lemmas.Result.{IfOk-weaker}
+use Rattle.beat_entries.specs.Taking.{IsFaultOf}
 use Rattle.host_model.specs.Disks.{EveryDisk}
 use Rattle.host_model.specs.Moments.{Throughout}
 use Rattle.host_model.specs.Seen.{Seen}
@@ -12,7 +13,6 @@ use Rattle.store_core.specs.declared.fault.Why.{Why}
 use Rattle.store_core.specs.disk.Holds.{OnlyOwn}
 use Rattle.store_core.specs.Counts.{raised}
 use Rattle.store_core.specs.Store.{StoreState}
-use Rattle.agent_core.specs.declared.fault.AgentFault.TheVariants.{Memory}
 use Rattle.agent_core.specs.declared.reply.Reply.{Reply}
 use Rattle.agent_core.specs.Agent.{AgentIsReady, AgentState, IsAgentOf}
 use Rattle.agent_core.specs.Bound.{GrowsWithin}
@@ -22,12 +22,11 @@ use Rattle.agent_core.specs.Roles.{copies}
 use Rattle.agent_core.specs.Kept.{IsJudgedAt}
 use Rattle.agent_core.specs.Rules.{beat_refusal}
 use Rattle.agent_core.specs.Stands.{StandsForOneOf}
-use Rattle.agent_core.proofs.BeatCalls.{beat-refused, beat-short, unstored}
+use Rattle.agent_core.proofs.BeatCalls.{beat-unjudged, unstored}
 use Rattle.agent_core.proofs.HistoryLemmas.{passes}
 use Rattle.agent_core.proofs.KeepsLemmas.{keeps-err, kept-faults, spent-never, told-ready}
 use Rattle.agent_core.proofs.KeptLemmas.{agent-more, follows-of, judged-at, one_of}
 use Rattle.agent_core.proofs.Outcomes.{on_both, on_err, on_ok, short-disk, spending-changes, spending-refusal, spending-reopens, told-changes, told-refusal, told-reopens}
-use Rattle.agent_core.proofs.StepLemmas.{short_of}
 use Rattle.agent_core.proofs.agent.Agent.beat.Goals as goal
 
 pub add_beat-requires-clause-later : goal.add_beat-requires-clause-later
@@ -68,20 +67,8 @@ tell-requires-clause-same g c none =
     subst (λ (r : Registry). IsUpTo new.alarms r) (sym registry_is) (subst (λ (alarms : Alarms). IsUpTo alarms old.registry) (sym alarms_are) (c.requires.ready going).up_to)
 
 -- ---- nothing is stored
-pub returns-in-Err-Refused : goal.returns-in-Err-Refused
-returns-in-Err-Refused g c =
-    let agent : AgentState = c.args.self.now in
-    let moment = c.args.moment in
-    let beat = c.args.beat.now in
-    let inside = c.self.inside in
-    let judged = rw c.in-Err-Refused.field-0-is at (c.in-Err-Refused.ensures.judged) in
-    let against : beat_refusal agent.registry (copies agent.role) agent.last moment beat ≡ Some c.in-Err-Refused.reason =
-    ap (λ (a : AgentState). beat_refusal a.registry (copies a.role) a.last moment beat) (sym c.self.view_is)
-    ∙ (ap (λ (b : Bool). beat_refusal inside.left.registry b inside.last moment beat) (sym c.copies.ensures) ∙ judged) in
-    beat-refused g.H.Host.honest (g.H.Host.seen c.args.host.now) agent beat moment (ap (λ (a : AgentState). a.fault) (sym c.self.view_is) ∙ c.in_default.is) c.in-Err-Refused.reason c.requires.ready against
-
-pub returns-in-Err-Memory : goal.returns-in-Err-Memory
-returns-in-Err-Memory g c =
+pub returns-in-Err : goal.returns-in-Err
+returns-in-Err g c =
     let inside : AgentState = record {
       store = c.self.inside.store;
       registry = c.self.inside.left.registry;
@@ -97,10 +84,9 @@ returns-in-Err-Memory g c =
     let host : Seen = g.H.Host.seen c.args.host.now in
     let moment = c.args.moment in
     let beat = c.args.beat.now in
-    let judged = rw c.in-Err-Memory.field-0-is at (c.in-Err-Memory.ensures.judged) in
-    let free : beat_refusal inside.registry (copies inside.role) inside.last moment beat ≡ None =
-    ap (λ (b : Bool). beat_refusal inside.registry b inside.last moment beat) (sym c.copies.ensures) ∙ judged in
-    subst (λ (a : AgentState). Beats g.H.Host.honest host a beat moment (Err Memory) host (short_of inside)) c.self.view_is (beat-short g.H.Host.honest host inside beat moment c.in_default.is free)
+    let ready = subst (AgentIsReady g.H.Host.honest host.past) (sym c.self.view_is) c.requires.ready in
+    let judged = subst (λ (b : Bool). IsFaultOf (beat_refusal inside.registry b inside.last moment beat) c.in-Err.fault) c.copies.ensures c.in-Err.ensures.judged in
+    rw (c.cause-self-inside.ensures, c.from-fault.ensures, ← c.self.view_is) (beat-unjudged g.H.Host.honest host inside beat moment c.in_default.is c.in-Err.fault ready judged)
 
 -- ---- it is stored, and the alarms follow it
 pub returns-in-Ok-add_beat : goal.returns-in-Ok-add_beat
@@ -161,8 +147,8 @@ returns-in-Ok-add_beat g c =
     }
 
 -- ---- the disk or memory failed it
-pub returns : goal.returns
-returns g c =
+pub returns-in-Err-add_beat : goal.returns-in-Err-add_beat
+returns-in-Err-add_beat g c =
     let agent : AgentState = c.args.self.now in
     let moment = c.args.moment in
     let beat = c.args.beat.now in
@@ -178,11 +164,11 @@ returns g c =
     let at : IsJudgedAt c.args.self.now.registry c.args.moment c.args.beat.now numbered =
     subst (λ (a : AgentState). IsJudgedAt a.registry c.args.moment c.args.beat.now numbered) c.self.view_is
     (judged-at c.self.inside.left.registry c.args.moment c.args.beat.now numbered c.requires.is_open c.in-Ok.ensures.content c.in-Ok.ensures.numbered) in
-    let fault = c.in-Err.fault in
-    let keeps = c.in-Err.ensures.keeps in
+    let fault = c.in-Err-add_beat.fault in
+    let keeps = c.in-Err-add_beat.ensures.keeps in
     let same = c.add_beat.ensures.stays in
-    let spent = λ (after : AgentState). record after { fault = c.cause-self-inside.result } in
-    subst (λ (after : AgentState). Beats g.H.Host.honest host agent beat moment (Err fault) middle (spent after)) (sym c.self-in-Err.view_is) (record {
+    let spent = λ (after : AgentState). record after { fault = c.cause-self-inside-in-Err-add_beat.result } in
+    subst (λ (after : AgentState). Beats g.H.Host.honest host agent beat moment (Err fault) middle (spent after)) (sym c.self-in-Err-add_beat.view_is) (record {
       any_moment = λ true_host set h is_of.
           one_of host.past agent set h is_of reason (collected moment beat ∷ h) middle.past free
           (c.add_beat.ensures.any_moment true_host moment beat set h at is_of.holds is_of.left_by (follows-of host.past agent set h is_of moment beat c.requires.is_open free));
@@ -194,11 +180,11 @@ returns g c =
       refused = λ again. spending-refusal reason fault free keeps.faults;
       untouched = c.add_beat.ensures.untouched;
       unchanged = λ leaves. absurd (spending-changes fault keeps.faults leaves);
-      fault = c.cause-self-inside.ensures ∙ sym (ap (λ (f : Option Why). fault_after f (unstored fault)) going);
+      fault = c.cause-self-inside-in-Err-add_beat.ensures ∙ sym (ap (λ (f : Option Why). fault_after f (unstored fault)) going);
       reopens = spending-reopens agent.fault fault keeps.faults going;
       stays = (ap (λ (a : AgentState). a.count) same, ap (λ (a : AgentState). a.last) same);
       id = ap (λ (s : Settings). s.id) keeps.settings;
-      ready = λ none. absurd (spent-never fault keeps.faults (sym c.cause-self-inside.ensures ∙ none));
+      ready = λ none. absurd (spent-never fault keeps.faults (sym c.cause-self-inside-in-Err-add_beat.ensures ∙ none));
       cause = (keeps-err {U = Reply} g.H.Host.honest host middle agent.store c.add_beat.new.self.store fault keeps).cause;
       bound = λ true_host set h is_of limit fits. c.add_beat.ensures.bound true_host set h is_of.holds is_of.left_by limit fits;
       gaps = c.add_beat.ensures.gaps;

@@ -1,4 +1,4 @@
-use Rattle.std.proofs.Common.{◌≡◌, ◌∷◌, ◌∙◌, List, Option, Some, None, ap, sym, subst, refl, rules}
+use Rattle.std.proofs.Common.{◌≡◌, ◌∷◌, ◌∙◌, List, Option, None, ap, sym, subst, refl}
 use Rattle.std.proofs.lemmas.Result.{IfOk-weaker}
 use Rattle.host_model.specs.Disks.{EveryDisk}
 use Rattle.host_model.specs.Moments.{Throughout}
@@ -9,7 +9,6 @@ use Rattle.tier_settings.specs.declared.settings.Settings.{Settings}
 use Rattle.store_core.specs.declared.fault.Why.{Why}
 use Rattle.store_core.specs.disk.Holds.{OnlyOwn}
 use Rattle.store_core.specs.Store.{StoreState}
-use Rattle.agent_core.specs.declared.fault.AgentFault.TheVariants.{Memory}
 use Rattle.agent_core.specs.declared.reply.Reply.{Reply}
 use Rattle.agent_core.specs.Agent.{AgentIsReady, AgentState, Fits, IsAgentOf}
 use Rattle.agent_core.specs.Alarms.{IsReadOf}
@@ -19,20 +18,19 @@ use Rattle.agent_core.specs.Faults.{fault_after, IsHealthRefusal}
 use Rattle.agent_core.specs.Health.{health_refusal}
 use Rattle.agent_core.specs.Stands.{StandsForHealth}
 use Rattle.agent_core.proofs.BeatCalls.{unstored}
-use Rattle.agent_core.proofs.HealthCalls.{health-refused, health-short}
+use Rattle.agent_core.proofs.HealthCalls.{health-unread}
 use Rattle.agent_core.proofs.HealthLemmas.{read-accepted, read-short}
 use Rattle.agent_core.proofs.KeepsLemmas.{keeps-err, kept-faults, spent-never, told-ready}
 use Rattle.agent_core.proofs.KeptLemmas.{agent-more, health-awaits, health-moments}
 use Rattle.agent_core.proofs.Outcomes.{either_way, on_both, on_err, on_ok, short-disk, spending-changes, spending-health, spending-reopens, told-changes, told-health, told-reopens}
-use Rattle.agent_core.proofs.StepLemmas.{short_of}
 use Rattle.agent_core.proofs.agent.Agent.set_health.Goals as goal
 
 pub add_health-requires-clause-short : goal.add_health-requires-clause-short
 add_health-requires-clause-short g c = read-short c.args.text.now _ c.in-Ok.ensures.config
 
 -- ---- nothing is stored
-pub returns-in-Err-Memory : goal.returns-in-Err-Memory
-returns-in-Err-Memory g c =
+pub returns-in-Err : goal.returns-in-Err
+returns-in-Err g c =
     let inside : AgentState = record {
       store = c.self.inside.store;
       registry = c.self.inside.left.registry;
@@ -46,12 +44,8 @@ returns-in-Err-Memory g c =
       fault = c.self.inside.fault;
     } in
     let host : Seen = g.H.Host.seen c.args.host.now in
-    subst (λ (a : AgentState). SetsHealth g.H.Host.honest host a c.args.text.now (unstored Memory) host (short_of inside)) c.self.view_is (health-short g.H.Host.honest host inside c.args.text.now c.in_default.is)
-
-pub returns-in-Err : goal.returns-in-Err
-returns-in-Err g c =
-    let against : health_refusal c.args.text.now ≡ Some c.in-Err.fault = search rules in
-    health-refused g.H.Host.honest (g.H.Host.seen c.args.host.now) c.args.self.now c.args.text.now (ap (λ (a : AgentState). a.fault) (sym c.self.view_is) ∙ c.in_default.is) c.in-Err.fault c.requires.ready against
+    let ready = subst (AgentIsReady g.H.Host.honest host.past) (sym c.self.view_is) c.requires.ready in
+    rw (c.cause-self-inside.ensures, c.from-fault.ensures, ← c.self.view_is) (health-unread g.H.Host.honest host inside c.args.text.now c.in_default.is c.in-Err.fault ready c.in-Err.ensures.refused)
 
 -- ---- it is stored, and the alarms follow it
 pub returns-in-Ok-add_health : goal.returns-in-Ok-add_health
@@ -136,7 +130,7 @@ returns-in-Err-add_health g c =
     let accepted = read-accepted text _ c.in-Ok.ensures.config in
     let fault = c.in-Err-add_health.fault in
     let keeps = c.in-Err-add_health.ensures.keeps in
-    let spent : AgentState = record inside { store = c.add_health.new.store; fault = c.cause-self-inside.result } in
+    let spent : AgentState = record inside { store = c.add_health.new.store; fault = c.cause-self-inside-in-Err-add_health.result } in
     subst (λ (a : AgentState). SetsHealth g.H.Host.honest host a text (unstored fault) middle spent) c.self.view_is (record {
       any_moment = λ true_host set h is_of. health-moments host.past middle.past set h text accepted (c.add_health.ensures.any_moment true_host set h is_of.holds is_of.left_by);
       done = tt;
@@ -148,11 +142,11 @@ returns-in-Err-add_health g c =
       refused = λ again. subst (λ (r : Option ConfigFault). IsHealthRefusal r fault) (sym accepted) (spending-health fault keeps.faults);
       untouched = c.add_health.ensures.untouched;
       unchanged = λ leaves. absurd (spending-changes fault keeps.faults leaves);
-      fault = c.cause-self-inside.ensures ∙ sym (ap (λ (f : Option Why). fault_after f (unstored fault)) c.in_default.is);
+      fault = c.cause-self-inside-in-Err-add_health.ensures ∙ sym (ap (λ (f : Option Why). fault_after f (unstored fault)) c.in_default.is);
       reopens = spending-reopens inside.fault fault keeps.faults c.in_default.is;
       stays = refl;
       id = ap (λ (s : Settings). s.id) keeps.settings;
-      ready = λ none. absurd (spent-never fault keeps.faults (sym c.cause-self-inside.ensures ∙ none));
+      ready = λ none. absurd (spent-never fault keeps.faults (sym c.cause-self-inside-in-Err-add_health.ensures ∙ none));
       cause = (keeps-err {U = Reply} g.H.Host.honest host middle inside.store c.add_health.new.store fault keeps).cause;
       bound = λ true_host set h is_of limit fits. c.add_health.ensures.bound true_host set h is_of.holds is_of.left_by limit fits;
       gaps = refl;

@@ -1,4 +1,5 @@
 use Rattle.std.proofs.Common.{arith, rules, ◌≡◌, ◌+◌, List, [], Option, length, None, Some, true, false, Bool, Result, Ok, Err, subst, sym, ap, ◌∙◌, if◌then◌else◌, refl, true≢false}
+use Rattle.std.proofs.lemmas.Result.{err_from_is_err_and}
 use Rattle.host_model.specs.Disks.{EveryDisk}
 use Rattle.host_model.specs.Moments.{Throughout}
 use Rattle.host_model.specs.Seen.{Seen}
@@ -53,8 +54,8 @@ taken verdict reply = Ok (verdict, reply)
 abbrev replied : Reply → Result Reply AgentFault
 replied reply = Ok reply
 
-pub returns-in-Ok : goal.returns-in-Ok
-returns-in-Ok g c =
+pub returns : goal.returns
+returns g c =
     let agent = c.args.self.now in
     let message = c.args.message.now in
     let stored : is_stored (agent_verdict agent message) ≡ true = search rules in
@@ -64,7 +65,7 @@ returns-in-Ok g c =
     let host' : Seen = g.H.Host.seen c.add_copies.new.host in
     let going : agent.fault ≡ None = ap (λ (a : AgentState). a.fault) (sym c.self.view_is) ∙ c.in_default.is in
     let adds = stored-adds agent message stored free in
-    let did = c.in-Ok.ensures in
+    let did = c.in_ok-reply.ensures in
     record {
       verdict = c.verdict-verdict.ensures;
       any_moment = λ true_host set h is_of. subst (λ (more : List HistoryBeat). Throughout (EveryDisk (StandsForPrefix set h more)) host.past host'.past) adds (did.any_moment true_host set h is_of);
@@ -79,7 +80,7 @@ returns-in-Ok g c =
       quiet = λ not. absurd (true≢false (sym stored ∙ not));
       fails = λ failed. stored;
       unchanged = tt;
-      fault = did.fault ∙ ap (λ (f : Option Why). fault_after f (replied c.in-Ok.reply)) going ∙ sym (ap (λ (f : Option Why). fault_after f (taken c.verdict-verdict.result c.in-Ok.reply)) going);
+      fault = did.fault ∙ ap (λ (f : Option Why). fault_after f (replied c.in_ok-reply.reply)) going ∙ sym (ap (λ (f : Option Why). fault_after f (taken c.verdict-verdict.result c.in_ok-reply.reply)) going);
       reopens = going;
       stays = tt;
       id = did.id;
@@ -94,8 +95,8 @@ returns-in-Ok g c =
 abbrev untaken : AgentFault → Result (Verdict × Reply) AgentFault
 untaken fault = Err fault
 
-pub returns-in-Err : goal.returns-in-Err
-returns-in-Err g c =
+pub returns-in_err-reply : goal.returns-in_err-reply
+returns-in_err-reply g c =
     let agent = c.args.self.now in
     let message = c.args.message.now in
     let stored : is_stored (agent_verdict agent message) ≡ true = search rules in
@@ -104,9 +105,10 @@ returns-in-Err g c =
     let host : Seen = g.H.Host.seen c.args.host.now in
     let host' : Seen = g.H.Host.seen c.add_copies.new.host in
     let going : agent.fault ≡ None = ap (λ (a : AgentState). a.fault) (sym c.self.view_is) ∙ c.in_default.is in
-    let fault = c.in-Err.fault in
-    let did = c.in-Err.ensures in
-    record {
+    let fault = c.in_err-reply.field-0.0 in
+    let did = c.in_err-reply.ensures in
+    let error = err_from_is_err_and c.from_residual.result c.from_residual.ensures.1 in
+    rw (error.1, error.2) (record {
       verdict = tt;
       any_moment = λ true_host set h is_of.
           subst (λ (more : List HistoryBeat). Throughout (EveryDisk (StandsForPrefix set h more)) host.past host'.past) (stored-adds agent message stored free) (did.any_moment true_host set h is_of);
@@ -132,4 +134,4 @@ returns-in-Err g c =
       bound = did.bound;
       only_here = did.only_here;
       tells = did.tells;
-    }
+    })
