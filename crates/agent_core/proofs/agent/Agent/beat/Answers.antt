@@ -147,8 +147,8 @@ returns-in-Ok-add_beat g c =
     }
 
 -- ---- the disk or memory failed it
-pub returns-in-Err-add_beat : goal.returns-in-Err-add_beat
-returns-in-Err-add_beat g c =
+pub returns : goal.returns
+returns g c =
     let agent : AgentState = c.args.self.now in
     let moment = c.args.moment in
     let beat = c.args.beat.now in
