@@ -44,8 +44,10 @@ pub(crate) fn answer_with<L: Link>(
     ensures cause { HasCause (L.faults link.old) (L.faults link.new)
         (IsErrOf result SessionFault.LinkFault) }
 {
-    say(alloc, link, frame)?;
-    Ok(flow)
+    match say(alloc, link, frame) {
+        Ok(()) => Ok(flow),
+        Err(fault) => Err(fault),
+    }
 }
 
 /// Says that it goes, and gives how the session ends: with this fault, where it was said.
