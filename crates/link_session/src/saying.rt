@@ -44,10 +44,8 @@ pub(crate) fn answer_with<L: Link>(
     ensures cause { HasCause (L.faults link.old) (L.faults link.new)
         (IsErrOf result SessionFault.LinkFault) }
 {
-    match say(alloc, link, frame) {
-        Ok(()) => Ok(flow),
-        Err(fault) => Err(fault),
-    }
+    say(alloc, link, frame)?;
+    Ok(flow)
 }
 
 /// Says that it goes, and gives how the session ends: with this fault, where it was said.
