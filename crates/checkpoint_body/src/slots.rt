@@ -4,11 +4,11 @@ ghost use Rattle.checkpoint_body.specs.Slots.{gaps, points_from, points_in, poin
 use crate::grid::moment_of;
 use crate::item::{Point, PointList};
 use crate::page::{SlotPage, SlotPageList, WordList};
-use page_buffer::MOST_SLOTS;
+use page_buffer::{MOST_EMPTY, MOST_SLOTS};
 use std::alloc::{AllocError, Global};
 
 /// How many slots may be empty between two points.
-const GAPS: [u8; 7] = [0, 1, 2, 3, 4, 5, 6];
+const GAPS: [u8; MOST_EMPTY as usize + 1] = [0, 1, 2, 3, 4, 5, 6];
 
 /// The page of a point alone.
 fn slot_page_of(alloc: Global, point: &Point) -> Result<SlotPage, AllocError>

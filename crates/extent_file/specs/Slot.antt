@@ -1,10 +1,11 @@
 -- The places of a tier's file: slots of one size, one after the other.
 use Rattle.std.specs.Prelude.{◌==◌, ℕ, ◌+◌, ◌-◌, ◌*◌, ◌/◌, ◌≤◌, if◌then◌else◌}
-use Rattle.extent_file.specs.declared.sizes.TheConstants.{ENTRY_SIZE, HEAD_SIZE, MORE_ITEMS, WORD_SIZE}
+use Rattle.extent_file.specs.declared.sizes.TheConstants.{ENTRY_SIZE, HEAD_SIZE, WORD_SIZE}
 use Rattle.host_model.specs.declared.file.File.{File}
 use Rattle.host_model.specs.Past.{file_number}
 use Rattle.page_buffer.specs.declared.records.TheConstants.{RECORD_SIZE}
 use Rattle.page_pool.specs.declared.node.TheConstants.{PAGE_SIZE}
+use Rattle.tier_settings.specs.declared.limits.TheConstants.{MOST_SERIES}
 
 -- the file is that of a tier
 abbrev pub IsTierFile : File → Type 0
@@ -21,9 +22,10 @@ item_size tier = if tier == 0 then WORD_SIZE else RECORD_SIZE
 abbrev pub most_items : ℕ → ℕ
 most_items tier = PAGE_SIZE / item_size tier
 
--- how many bytes a slot has, in a tier whose segments are sealed once they have so many items, or more
+-- how many bytes a slot has, in a tier whose segments are sealed once they have so many items or more: a beat
+-- that seals one brings at most an item of each series
 abbrev pub slot_size : ℕ → ℕ → ℕ
-slot_size tier items = HEAD_SIZE + (items + MORE_ITEMS) * (ENTRY_SIZE + item_size tier)
+slot_size tier items = HEAD_SIZE + (items + MOST_SERIES) * (ENTRY_SIZE + item_size tier)
 
 -- where a slot begins
 abbrev pub slot_start : ℕ → ℕ → ℕ → ℕ

@@ -1,10 +1,11 @@
 ghost use Rattle.std.specs.Prelude.{◌≡◌, ◌+◌, ◌*◌, ◌<◌, ◌≤◌, ◌^◌};
-ghost use Rattle.tier_settings.specs.declared.limits.TheConstants.{MOST_EXTENTS, MOST_ITEMS};
+ghost use Rattle.tier_settings.specs.declared.limits.TheConstants.{MOST_EXTENTS, MOST_ITEMS, MOST_SERIES};
 ghost use Rattle.extent_file.specs.Slot.{IsTierFile, tier_of, item_size, most_items, slot_size, slot_start};
 
 use host_model::File;
 use page_buffer::RECORD_SIZE;
 use page_pool::PAGE_SIZE;
+use tier_settings::MOST_SERIES;
 
 /// The most bytes that a slot has.
 pub const SLOT_LIMIT: u64 = 1 << 26;
@@ -26,9 +27,6 @@ pub(crate) const ENTRY_SIZE: usize = 24;
 
 /// How many bytes a word of a slot page has.
 const WORD_SIZE: usize = 4;
-
-/// The most items that a segment has above those at which it is sealed.
-pub(crate) const MORE_ITEMS: u64 = 65_536;
 
 /// The tier whose extents lie in a file.
 pub(crate) fn tier_of(file: File) -> u32
@@ -68,7 +66,8 @@ pub(crate) fn slot_size(tier: u32, items: u32) -> u64
     ensures value { result ≡ slot_size tier items }
     ensures most { result ≤ SLOT_LIMIT }
 {
-    HEAD_SIZE as u64 + (u64::from(items) + MORE_ITEMS) * (ENTRY_SIZE as u64 + item_size(tier))
+    let most = u64::from(items) + u64::from(MOST_SERIES);
+    HEAD_SIZE as u64 + most * (ENTRY_SIZE as u64 + item_size(tier))
 }
 
 /// Where a slot begins.

@@ -57,7 +57,7 @@ pub struct Entity {
 pub type AlarmList = ListOf<Entity>;
 
 /// The most bytes of a name.
-const NAME_LIMIT: usize = 200;
+pub const NAME_LIMIT: usize = 200;
 
 /// A multiplier that lets a delay be.
 const ONE: Units = 10_000_000;

@@ -25,7 +25,7 @@ mod setting;
 mod tally;
 
 pub use config::{Config, TEXT_LIMIT};
-pub use entity::{AlarmList, Entity};
+pub use entity::{AlarmList, Entity, NAME_LIMIT};
 pub use fault::ConfigFault;
 pub use lookup::{Lookup, Method};
 pub use number::LONGEST_DURATION;

@@ -24,7 +24,7 @@ IsSlotPage first step bytes = IsWords bytes × AreSlots first step (words_of byt
 -- how many places may hold the next point of a page with so many slots: the first is at the first moment
 abbrev pub reach : ℕ → ℕ
 reach zero = 1
-reach (suc _) = 7
+reach (suc _) = MOST_EMPTY + 1
 
 -- a point at the moment leaves so many slots empty before it
 abbrev pub Skips : Page ℕ → ℕ → ℕ → Type 0

@@ -64,7 +64,7 @@ fn reach(len: usize) -> usize
 {
     match len {
         0 => 1,
-        _ => 7,
+        _ => MOST_EMPTY as usize + 1,
     }
 }
 

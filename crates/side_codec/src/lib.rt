@@ -16,7 +16,7 @@
 //!
 //! It stands on `entry_codec` for charts and dimensions, on `alarm_events` for alarms, on
 //! `field_codec` for the fields, on `algorithms` and `storage_number` for rows and points, and on
-//! the limits of `history`.
+//! the limits of `history` and `health_config`.
 #![tactic(auto)]
 
 mod definitions;
@@ -38,7 +38,6 @@ pub use fault::SideFault;
 pub use gap::{GapSpan, GapSpanList};
 pub use last_point::{LastPoint, LastPointList};
 pub use law::sides_round_trip;
-pub use limits::{ALARM_NAME_LIMIT, HEALTH_TEXT_LIMIT};
 pub use reading::read_side;
 pub use role::SideRole;
 pub use short::is_short;
