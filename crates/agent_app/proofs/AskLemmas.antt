@@ -19,6 +19,8 @@ use Rattle.alarm_events.specs.Log.{Shown}
 use Rattle.tier_settings.specs.declared.settings.Settings.{Settings}
 use Rattle.agent_core.specs.declared.fault.AgentFault.{AgentFault}
 use Rattle.agent_core.specs.declared.fault.AgentFault.TheVariants as fault
+use Rattle.agent_core.specs.declared.fault.OpenFault.{OpenFault}
+use Rattle.agent_core.specs.declared.fault.OpenFault.TheVariants as open_fault
 use Rattle.agent_core.specs.Agent.{AgentState, IsAgentOf}
 use Rattle.agent_core.specs.Answers.{reply_of}
 use Rattle.agent_core.specs.Calls.{Logs, Opens, Queries}
@@ -33,7 +35,8 @@ use Rattle.agent_app.specs.Log.{log_as, log_for}
 use Rattle.agent_app.specs.LogText.{shown_by}
 use Rattle.agent_app.specs.Query.{reply_for, Answering, Asks, IsAnswerStatus, IsAskStatus, IsSettled}
 use Rattle.agent_app.specs.Run.{ends_a_run, is_whole}
-use Rattle.agent_app.specs.Running.{opening_status, DiskRose, TellRose}
+use Rattle.agent_app.specs.Running.{DiskRose, TellRose}
+use Rattle.agent_app.specs.Statuses.{opening_status}
 use Rattle.agent_app.proofs.CauseLemmas.{cause-as, stayed, stayed-before}
 use Rattle.agent_app.proofs.LeavesLemmas.{told-leaves, torn-leaves}
 use Rattle.agent_app.proofs.OpeningLemmas.{by-fault, disk-failed, failed_by, fault-is, opened-disk, opened-finds, unopened-finds, untold-yet}
@@ -282,26 +285,26 @@ module _ (honest : Type 0) (answer : Settings → List Beat → List ℕ) (host 
       complete-by none_told none_disk (inr (inr (inr is))) = inr is
 
 -- ---- none was opened
-opening-status : (why : AgentFault) → IsAskStatus (opening_status why)
-opening-status fault.NotADatabase = tt
-opening-status fault.DiskFault = inr (inr (inl refl))
-opening-status (fault.Damaged part) = tt
-opening-status other = inr (inr (inr refl))
+opening-status : (why : OpenFault) → IsAskStatus (opening_status why)
+opening-status open_fault.NotADatabase = tt
+opening-status open_fault.DiskFault = inr (inr (inl refl))
+opening-status (open_fault.Damaged part) = tt
+opening-status open_fault.Memory = inr (inr (inr refl))
 
-module _ (honest : Type 0) (answer : Settings → List Beat → List ℕ) (host host' : Seen) (first : honest → IsDisk host.past (reads_as host.past)) (why : AgentFault) (opens : Opens honest host (Err why) host') where
+module _ (honest : Type 0) (answer : Settings → List Beat → List ℕ) (host host' : Seen) (first : honest → IsDisk host.past (reads_as host.past)) (why : OpenFault) (opens : Opens honest host (Err why) host') where
   pub unopened-asked : Asks honest answer (opening_status why) host host'
   unopened-asked = record {
     answered = λ h set g here.
-        let part : is_whole (opening_status why) ≡ false = by-fault honest host host' first (λ (f : AgentFault). is_whole (opening_status f) ≡ false) why (opens.stands h set g here) refl refl in
+        let part : is_whole (opening_status why) ≡ false = by-fault honest host host' first (λ (f : OpenFault). is_whole (opening_status f) ≡ false) why (opens.stands h set g here) refl refl in
         record { said = []; unsaid = answer set g; whole = refl; tells = (opens.only_here h).output ∙ sym (append-nil (told host.past)); complete = λ all. absurd (true≢false (sym all ∙ part)) };
     complete = λ h set g here none_told none_disk.
-        by-fault honest host host' first (λ (f : AgentFault). why ≡ f → (opening_status f ≡ status.Ok) ⊎ (opening_status f ≡ status.Memory)) why (opens.stands h set g here)
-        (λ is. absurd (none_disk (opens.cause.failed (ap (λ (f : AgentFault). Err f) is)))) (λ is. inr refl) refl;
+        by-fault honest host host' first (λ (f : OpenFault). why ≡ f → (opening_status f ≡ status.Ok) ⊎ (opening_status f ≡ status.Memory)) why (opens.stands h set g here)
+        (λ is. absurd (none_disk (opens.cause.failed (ap (λ (f : OpenFault). Err f) is)))) (λ is. inr refl) refl;
     any_moment = opens.any_moment;
     same = opens.same;
     settled = λ h set g here. settled-yet set g host.past host'.past (opens.only_here h).output (opens.any_moment h);
     done = λ h set g here is.
-        absurd (true≢false (sym (ap is_whole is) ∙ by-fault honest host host' first (λ (f : AgentFault). is_whole (opening_status f) ≡ false) why (opens.stands h set g here) refl refl));
+        absurd (true≢false (sym (ap is_whole is) ∙ by-fault honest host host' first (λ (f : OpenFault). is_whole (opening_status f) ≡ false) why (opens.stands h set g here) refl refl));
     others = λ h. (opens.only_here h).others;
     unspent = λ h is. (opens.only_here h).output;
     silent = λ h none. (opens.only_here h).output;
@@ -309,6 +312,6 @@ module _ (honest : Type 0) (answer : Settings → List Beat → List ℕ) (host 
     statuses = opening-status why;
     tell_cause = stayed host.tell_faults host'.tell_faults (opening_status why ≡ status.TellFault) opens.tells (untold-yet honest host host' first why);
     disk_cause =
-        cause-as host.disk_faults host'.disk_faults (failed_by why ≡ failed_by fault.DiskFault) (opening_status why ≡ status.DiskFault)
-        (disk-failed honest host host' first why) (λ e. ap opening_status (fault-is why fault.DiskFault e)) opens.cause;
+        cause-as host.disk_faults host'.disk_faults (failed_by why ≡ failed_by open_fault.DiskFault) (opening_status why ≡ status.DiskFault)
+        (disk-failed honest host host' first why) (λ e. ap opening_status (fault-is why open_fault.DiskFault e)) opens.cause;
   }

@@ -17,7 +17,7 @@ use Rattle.plugin_text.specs.declared.refusal.Refusal.{Refusal}
 use Rattle.store_core.specs.disk.Shares.{share}
 use Rattle.store_core.specs.Store.{StoreState}
 use Rattle.store_core.proofs.DiskProofs.ShareLemmas.{within_disks}
-use Rattle.agent_core.specs.declared.fault.AgentFault.{AgentFault}
+use Rattle.agent_core.specs.declared.fault.OpenFault.{OpenFault}
 use Rattle.agent_core.specs.Agent.{AgentState}
 use Rattle.agent_core.specs.Bound.{GrowsWithin, HasReached, RunsWithin}
 use Rattle.agent_core.specs.Calls.{Opens}
@@ -87,7 +87,7 @@ grows-before agent old middle new grows leaves set g is_of limit fits = ends-bef
 
 -- ---- a database that is opened, or not
 module _ (honest : Type 0) (host middle : Seen) where
-  pub unopened-grows : (why : AgentFault) → Opens honest host (Err why) middle → honest → GrowsBy host.past middle.past
+  pub unopened-grows : (why : OpenFault) → Opens honest host (Err why) middle → honest → GrowsBy host.past middle.past
   unopened-grows why opens h set g here limit fits disk images numbered = opens.bound (share set limit) h
 
   pub opened-grows : (agent : AgentState) (new : List Event) → Opens honest host (Ok agent) middle → honest → AgentGrows agent middle.past new → GrowsBy host.past new

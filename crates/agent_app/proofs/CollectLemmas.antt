@@ -22,8 +22,8 @@ use Rattle.plugin_runner.specs.declared.fault.Turn.TheVariants as turn
 use Rattle.plugin_runner.specs.Collected.{no_turn, Collected, FailsBySpawner, Halts, HasTurned}
 use Rattle.plugin_runner.specs.Course.{Course, new_course}
 use Rattle.plugin_runner.specs.Runner.{IsFault}
-use Rattle.agent_core.specs.declared.fault.AgentFault.{AgentFault}
-use Rattle.agent_core.specs.declared.fault.AgentFault.TheVariants as fault
+use Rattle.agent_core.specs.declared.fault.OpenFault.{OpenFault}
+use Rattle.agent_core.specs.declared.fault.OpenFault.TheVariants as fault
 use Rattle.agent_core.specs.Agent.{AgentState}
 use Rattle.agent_core.specs.Calls.{Opens}
 use Rattle.agent_core.specs.Stands.{StandsForHistory}
@@ -32,7 +32,8 @@ use Rattle.agent_app.specs.declared.running.Running.{Running}
 use Rattle.agent_app.specs.Collect.{ends_a_collect, halt_status, Collects, CollectsAll, HasCollectCause, HasHeard, HasMadeAll, IsDisabling, Outside}
 use Rattle.agent_app.specs.Reading.{Ending}
 use Rattle.agent_app.specs.Run.{ends_a_run, finds_none, is_whole, run_reading, HasRunCause, Stores}
-use Rattle.agent_app.specs.Running.{opening_status, run_acts, DiskRose, TellRose}
+use Rattle.agent_app.specs.Running.{run_acts, DiskRose, TellRose}
+use Rattle.agent_app.specs.Statuses.{opening_status}
 use Rattle.agent_app.proofs.BoundLemmas.{unopened-grows}
 use Rattle.agent_app.proofs.CauseLemmas.{cause-as, stayed}
 use Rattle.agent_app.proofs.ChildrenLemmas.{ends-as-children}
@@ -66,22 +67,19 @@ heard-nothing asked last outside =
       takes = sym (take_all input_limit [] (omega arith));
     }
 
-opening-collects : (why : AgentFault) → (ends_a_collect (opening_status why) ≡ true) ⊎ (finds_none (opening_status why) ≡ true)
+opening-collects : (why : OpenFault) → (ends_a_collect (opening_status why) ≡ true) ⊎ (finds_none (opening_status why) ≡ true)
 opening-collects fault.NotADatabase = inr refl
 opening-collects fault.DiskFault = inl refl
 opening-collects (fault.Damaged part) = inr refl
-opening-collects other = inl refl
+opening-collects fault.Memory = inl refl
 
-unstarted : (why : AgentFault) → opening_status why ≡ status.SpawnFault → ⊥
+unstarted : (why : OpenFault) → opening_status why ≡ status.SpawnFault → ⊥
 unstarted fault.NotADatabase e = cc
 unstarted fault.DiskFault e = cc
 unstarted (fault.Damaged part) e = cc
-unstarted other e = apart e
-  where
-    apart : status.Memory ≡ status.SpawnFault → ⊥
-    apart e = cc
+unstarted fault.Memory e = cc
 
-module _ (honest : Type 0) (host host' : Seen) (first : honest → IsDisk host.past (reads_as host.past)) (why : AgentFault) (opens : Opens honest host (Err why) host') (asked : Collector) (outside : Outside) where
+module _ (honest : Type 0) (host host' : Seen) (first : honest → IsDisk host.past (reads_as host.past)) (why : OpenFault) (opens : Opens honest host (Err why) host') (asked : Collector) (outside : Outside) where
   collects-unopened : honest → (set : Settings) (h0 : List Beat) → EveryDisk (StandsForHistory set h0) host.past
       → Collects (opening_status why) asked set h0 outside outside host.past host'.past (TellRose host host') (DiskRose host host')
   collects-unopened h set h0 stands = record {
@@ -92,9 +90,9 @@ module _ (honest : Type 0) (host host' : Seen) (first : honest → IsDisk host.p
     stores = unopened-stores honest host host' first why opens h asked.every set h0 stands;
     cause =
         by-fault honest host host' first
-        (λ (f : AgentFault). why ≡ f
+        (λ (f : OpenFault). why ≡ f
         → HasCollectCause (opening_status f) (heard-nothing asked (last h0) outside).answer false (run_reading asked.every set h0 false []).ending [] (Rose outside.spawn_faults outside.spawn_faults) (TellRose host host') (DiskRose host host'))
-        why (opens.stands h set h0 (stands (reads_as host.past) (first h))) (λ is. opens.cause.failed (ap (λ (f : AgentFault). Err f) is)) (λ is. tt) refl;
+        why (opens.stands h set h0 (stands (reads_as host.past) (first h))) (λ is. opens.cause.failed (ap (λ (f : OpenFault). Err f) is)) (λ is. tt) refl;
   }
 
   pub uncollected : CollectsAll honest asked (opening_status why) outside outside host host'
@@ -105,7 +103,7 @@ module _ (honest : Type 0) (host host' : Seen) (first : honest → IsDisk host.p
       before = opens.any_moment h;
       silent = (opens.only_here h).output;
       after =
-          inr (by-fault honest host host' first (λ (f : AgentFault). (opening_status f ≡ status.DiskFault) ⊎ (opening_status f ≡ status.Memory)) why (opens.stands h set h0 here) (inl refl) (inr refl), refl, refl);
+          inr (by-fault honest host host' first (λ (f : OpenFault). (opening_status f ≡ status.DiskFault) ⊎ (opening_status f ≡ status.Memory)) why (opens.stands h set h0 here) (inl refl) (inr refl), refl, refl);
     };
     complete = λ h set h0 stands begun coming told.
         ends-as-children (opening_status why) asked set h0 outside outside host.past host'.past (TellRose host host') (DiskRose host host') (collects-unopened h set h0 stands) begun coming told;

@@ -1,5 +1,5 @@
 -- What `clap` finds of the words of a command line is the command that they give.
-use Rattle.std.proofs.Common.{◌≡◌, ◌∙◌, ◌<◌, ◌≤◌, ◌⊎◌, ◌&&◌, ◌||◌, ◌==◌, ℕ, Bool, true, false, refl, sym, ap, subst, arith, List, [], ◌∷◌, length, Option, Some, None, inl, inr, codes, true≢false, nat_lt}
+use Rattle.std.proofs.Common.{◌≡◌, ◌∙◌, ◌<◌, ◌≤◌, ◌⊎◌, ◌&&◌, ◌||◌, ◌==◌, ℕ, Bool, true, false, refl, sym, ap, subst, arith, List, [], ◌∷◌, length, Option, Some, None, Result, Ok, IfOk, inl, inr, codes, true≢false, nat_lt}
 use Rattle.std.proofs.lemmas.Bool.Decides.{nat_tests}
 use Rattle.std.proofs.lemmas.Slice.Eq.{bytes_eq-Decides}
 use Rattle.std.specs.Prelude.{if◌then◌else◌, map, nat_le, slice_index_or}
@@ -372,3 +372,13 @@ form-found f o is = ap (option_and_then form_of) (is ∙ raw_values-rows f (code
 
 pub addressed-found : (command : Command) (f : Found) (o : Option (List Text)) → o ≡ option_map raw_values (matched_of f (codes "words")) → option_and_then (addressed command) o ≡ addressed_in command (rows_of f)
 addressed-found command f o is = ap (option_and_then (addressed command)) (is ∙ raw_values-rows f (codes "words"))
+
+-- ---- what was read of the words
+
+-- words that give a command are some
+pub has-word : {E : Type 0} (read : Result (Option Command) E) (words : List (List ℕ)) (command : Command) → read ≡ Ok (Some command) → IfOk read (λ (c : Option Command). c ≡ command_of words) → 0 < length words
+has-word {E} read words command is says = by words (subst (λ (r : Result (Option Command) E). IfOk r (λ (c : Option Command). c ≡ command_of words)) is says)
+  where
+    by : (words : List (List ℕ)) → Some command ≡ command_of words → 0 < length words
+    by [] e = cc
+    by (word ∷ more) e = omega arith

@@ -17,8 +17,8 @@ use Rattle.health_config.specs.Config.{config_read}
 use Rattle.history.specs.History.{Beat, health}
 use Rattle.line_stream.proofs.RunLemmas.{rose-later, Takes-none}
 use Rattle.tier_settings.specs.declared.settings.Settings.{Settings}
-use Rattle.agent_core.specs.declared.fault.AgentFault.{AgentFault}
-use Rattle.agent_core.specs.declared.fault.AgentFault.TheVariants as fault
+use Rattle.agent_core.specs.declared.fault.OpenFault.{OpenFault}
+use Rattle.agent_core.specs.declared.fault.OpenFault.TheVariants as fault
 use Rattle.agent_core.specs.Agent.{AgentState}
 use Rattle.agent_core.specs.Calls.{Opens}
 use Rattle.agent_core.specs.Health.{health_refusal}
@@ -31,7 +31,8 @@ use Rattle.agent_app.specs.declared.health_text.HealthEnd.{HealthEnd}
 use Rattle.agent_app.specs.declared.health_text.HealthEnd.TheVariants.{ReadFault, TooLong, Memory as WantMemory}
 use Rattle.agent_app.specs.HealthText.{TakesText}
 use Rattle.agent_app.specs.Run.{ends_a_run, finds_none, is_whole}
-use Rattle.agent_app.specs.Running.{opening_status, Counts, DiskRose, IsTakers, TellRose}
+use Rattle.agent_app.specs.Running.{Counts, DiskRose, IsTakers, TellRose}
+use Rattle.agent_app.specs.Statuses.{opening_status}
 use Rattle.agent_app.proofs.BoundLemmas.{grows-before, idle-grows, opened-grows, unopened-grows}
 use Rattle.agent_app.proofs.CauseLemmas.{both-counts, cause-as, same-counts, stayed}
 use Rattle.agent_app.proofs.OpeningLemmas.{by-fault, complete-by, disk-failed, failed_by, fault-is, opened-finds, opened_with, opening-crashes, some-each, unopened-finds, unopened-leaves, unread, untold-yet}
@@ -379,12 +380,12 @@ module _ (honest : Type 0) (host : Seen) (agent : AgentState) (middle : Seen) (o
       found s none ends = true≢false (sym none)
 
 -- ---- the database was not opened
-module _ (honest : Type 0) (host host' : Seen) (first : honest → IsDisk host.past (reads_as host.past)) (why : AgentFault) (opens : Opens honest host (Err why) host') (left : Option (List ℕ)) (faults : ℕ) where
+module _ (honest : Type 0) (host host' : Seen) (first : honest → IsDisk host.past (reads_as host.past)) (why : OpenFault) (opens : Opens honest host (Err why) host') (left : Option (List ℕ)) (faults : ℕ) where
   none-taken : (source : Type 0) → honest → (set : Settings) (h0 : List Beat) → EveryDisk (StandsForHistory set h0) host.past
       → Configures (opening_status why) set h0 left left host.past host'.past source (TellRose host host') (DiskRose host host')
   none-taken source h set h0 stands =
       let which = opens.stands h set h0 (stands (reads_as host.past) (first h)) in
-      let part : is_whole (opening_status why) ≡ false = by-fault honest host host' first (λ (f : AgentFault). is_whole (opening_status f) ≡ false) why which refl refl in
+      let part : is_whole (opening_status why) ≡ false = by-fault honest host host' first (λ (f : OpenFault). is_whole (opening_status f) ≡ false) why which refl refl in
       record {
         taken = [];
         ended = false;
@@ -398,16 +399,16 @@ module _ (honest : Type 0) (host host' : Seen) (first : honest → IsDisk host.p
           told_for = λ is. absurd (untold-yet honest host host' first why is);
           unspent = λ is. (opens.only_here h).output;
           cause =
-              by-fault honest host host' first (λ (f : AgentFault). why ≡ f → HasHealthCause (opening_status f) false [] source (TellRose host host') (DiskRose host host')) why which
-              (λ is. opens.cause.failed (ap (λ (f : AgentFault). Err f) is)) (λ is. tt) refl;
+              by-fault honest host host' first (λ (f : OpenFault). why ≡ f → HasHealthCause (opening_status f) false [] source (TellRose host host') (DiskRose host host')) why which
+              (λ is. opens.cause.failed (ap (λ (f : OpenFault). Err f) is)) (λ is. tt) refl;
         };
       }
 
-  ends-so : (f : AgentFault) → (ends_health (opening_status f) ≡ true) ⊎ (finds_none (opening_status f) ≡ true)
+  ends-so : (f : OpenFault) → (ends_health (opening_status f) ≡ true) ⊎ (finds_none (opening_status f) ≡ true)
   ends-so fault.NotADatabase = inr refl
   ends-so fault.DiskFault = inl refl
   ends-so (fault.Damaged part) = inr refl
-  ends-so other = inl refl
+  ends-so fault.Memory = inl refl
 
   pub unopened-configured : ConfiguresAll honest (opening_status why) left left faults faults host host'
   unopened-configured = record {
@@ -416,11 +417,11 @@ module _ (honest : Type 0) (host host' : Seen) (first : honest → IsDisk host.p
       read = host'.past;
       before = opens.any_moment h;
       silent = (opens.only_here h).output;
-      after = inr (by-fault honest host host' first (λ (f : AgentFault). (opening_status f ≡ status.DiskFault) ⊎ (opening_status f ≡ status.Memory)) why (opens.stands h set h0 here) (inl refl) (inr refl), refl, refl);
+      after = inr (by-fault honest host host' first (λ (f : OpenFault). (opening_status f ≡ status.DiskFault) ⊎ (opening_status f ≡ status.Memory)) why (opens.stands h set h0 here) (inl refl) (inr refl), refl, refl);
     };
     complete = λ h set h0 stands. some-each left _ (λ text is none_read none_told none_disk.
-        by-fault honest host host' first (λ (f : AgentFault). why ≡ f → (opening_status f ≡ health_status text) ⊎ (opening_status f ≡ status.Memory)) why (opens.stands h set h0 (stands (reads_as host.past) (first h)))
-        (λ e. absurd (none_disk (opens.cause.failed (ap (λ (f : AgentFault). Err f) e)))) (λ e. inr refl) refl);
+        by-fault honest host host' first (λ (f : OpenFault). why ≡ f → (opening_status f ≡ health_status text) ⊎ (opening_status f ≡ status.Memory)) why (opens.stands h set h0 (stands (reads_as host.past) (first h)))
+        (λ e. absurd (none_disk (opens.cause.failed (ap (λ (f : OpenFault). Err f) e)))) (λ e. inr refl) refl);
     finds = unopened-finds honest host host' first why opens;
     statuses = ends-so why;
     input = record { taken = []; takes = Takes-none left; within = omega arith; read = λ is. absurd (unread honest host host' first why is) };

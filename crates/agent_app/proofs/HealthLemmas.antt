@@ -40,6 +40,7 @@ use Rattle.agent_app.specs.Bound.{AgentGrows}
 use Rattle.agent_app.specs.Health.{fault_status, fault_text, health_output, history_by, history_with_health, is_limit, is_over, line_by, status_by, told_by, HasHealthCause, StopsAt, StoresHealth, TellsFault}
 use Rattle.agent_app.specs.Run.{is_whole, LeavesOthers}
 use Rattle.agent_app.specs.Running.{DiskRose, IsCutShort, IsTakers, TellRose}
+use Rattle.agent_app.specs.Statuses.{agent_status}
 use Rattle.agent_app.proofs.AckLemmas.{first-free, first_word, no-stored}
 use Rattle.agent_app.proofs.BoundLemmas.{cut-written, grows-before, idle-grows, runs-grow}
 use Rattle.agent_app.proofs.CauseLemmas.{apart, cause-as, ended-as, ended_so, is_outside, stayed, stayed-before, stayed-behind}
@@ -66,7 +67,7 @@ acked-fault n why = by (is_limit why) (fault_line why) (fault_number why)
     by limit (Some at) None = acked-nothing n
     by limit None number = acked-nothing n
 
-fault-takers : (why : ConfigFault) → IsTakers (fault_status why)
+pub fault-takers : (why : ConfigFault) → IsTakers (fault_status why)
 fault-takers why = by (is_limit why) (fault_line why) (fault_number why)
   where
     by : (limit : Bool) (line number : Option ℕ) → IsTakers (status_by limit line number)
@@ -75,7 +76,7 @@ fault-takers why = by (is_limit why) (fault_line why) (fault_number why)
     by limit (Some line) None = tt
     by limit None number = tt
 
-fault-inside : (why : ConfigFault) → is_outside (fault_status why) ≡ false
+pub fault-inside : (why : ConfigFault) → is_outside (fault_status why) ≡ false
 fault-inside why = by (is_limit why) (fault_line why) (fault_number why)
   where
     by : (limit : Bool) (line number : Option ℕ) → is_outside (status_by limit line number) ≡ false
@@ -391,7 +392,7 @@ module _ (honest : Type 0) (agent : AgentState) (text : List ℕ) (host : Seen) 
   tells-by s host' cause = stayed-before host.tell_faults middle.tell_faults host'.tell_faults (s ≡ TellFault) sets.tells cause
 
   -- the disk failed
-  pub disk-failed-storing : result ≡ Err fault.DiskFault → StoresHealth honest agent text DiskFault host middle
+  disk-failed-storing : result ≡ Err fault.DiskFault → StoresHealth honest agent text DiskFault host middle
   disk-failed-storing is = record {
     at = λ h set h0 is_of.
         silent-end set h0 text host.past (TellRose host middle) (DiskRose host middle) DiskFault middle.past refl disk-apart (kept h set h0 is_of) (silent h) (sets.cause.failed is);
@@ -410,7 +411,7 @@ module _ (honest : Type 0) (agent : AgentState) (text : List ℕ) (host : Seen) 
       free = subst (λ (r : Result Reply AgentFault). HealthRefusedBy (health_refusal text) r) is (sets.refused going)
 
   -- memory ran out
-  pub want-storing : result ≡ Err fault.Memory → StoresHealth honest agent text Memory host middle
+  want-storing : result ≡ Err fault.Memory → StoresHealth honest agent text Memory host middle
   want-storing is = record {
     at = λ h set h0 is_of. silent-end set h0 text host.past (TellRose host middle) (DiskRose host middle) Memory middle.past refl (apart Memory TellFault refl refl) (kept h set h0 is_of) (silent h) tt;
     quiet = λ h why refused other. absurd (other refl);
@@ -427,14 +428,14 @@ module _ (honest : Type 0) (agent : AgentState) (text : List ℕ) (host : Seen) 
       memory-apart : Memory ≡ DiskFault → ⊥
       memory-apart e = cc
 
-  -- what was answered is no fault but that of memory, where it is neither a refusal nor one of the disk
-  pub memory-storing : (why : AgentFault) → result ≡ Err why → ((refused : ConfigFault) → why ≡ fault.Health refused → ⊥) → (why ≡ fault.DiskFault → ⊥) → why ≡ fault.Memory
-  memory-storing why is unrefused undisk = by why refl (subst (λ (r : Result Reply AgentFault). HealthRefusedBy (health_refusal text) r) is (sets.refused going))
+  -- where it is no refusal, the disk failed, or memory ran out
+  pub failed-storing : (why : AgentFault) → result ≡ Err why → ((refused : ConfigFault) → why ≡ fault.Health refused → ⊥) → StoresHealth honest agent text (agent_status why) host middle
+  failed-storing why is unrefused = by why refl (subst (λ (r : Result Reply AgentFault). HealthRefusedBy (health_refusal text) r) is (sets.refused going))
     where
-      by : (f : AgentFault) → why ≡ f → IsHealthRefusal (health_refusal text) f → why ≡ fault.Memory
+      by : (f : AgentFault) → why ≡ f → IsHealthRefusal (health_refusal text) f → StoresHealth honest agent text (agent_status f) host middle
       by (fault.Health refused) e reason = absurd (unrefused refused e)
-      by fault.DiskFault e reason = absurd (undisk e)
-      by fault.Memory e reason = e
+      by fault.DiskFault e reason = disk-failed-storing (is ∙ ap unstored e)
+      by fault.Memory e reason = want-storing (is ∙ ap unstored e)
       by other e reason = absurd reason
 
   -- it is refused

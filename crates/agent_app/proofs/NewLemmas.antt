@@ -1,21 +1,20 @@
 -- What `new` promises where it made a database.
-use Rattle.std.proofs.Common.{◌≡◌, inl, inr, [], Result, Ok, Err, refl, ap, sym, ◌∙◌, true≢false}
+use Rattle.std.proofs.Common.{◌≡◌, inl, inr, [], Result, Ok, Err, refl, sym, ◌∙◌, true≢false}
 use Rattle.host_model.specs.declared.status.Status.TheVariants as status
 use Rattle.tier_settings.specs.declared.settings.Settings.{Settings}
-use Rattle.agent_core.specs.declared.fault.AgentFault.{AgentFault}
-use Rattle.agent_core.specs.declared.fault.AgentFault.TheVariants as fault
+use Rattle.store_core.specs.declared.fault.CreateFault.{CreateFault}
+use Rattle.store_core.specs.declared.fault.CreateFault.TheVariants as fault
 use Rattle.agent_core.specs.Agent.{AgentState}
 use Rattle.agent_core.specs.Calls.{Creates}
-use Rattle.agent_core.specs.Faults.{IsCreating}
 use Rattle.host_model.specs.Seen.{Seen}
 use Rattle.link_session.proofs.StoreLemmas.{stands-all}
 use Rattle.agent_app.specs.New.{Makes}
 use Rattle.agent_app.proofs.CauseLemmas.{cause-as}
 
-abbrev refused : AgentFault → Result AgentState AgentFault
+abbrev refused : CreateFault → Result AgentState CreateFault
 refused why = Err why
 
-fault-is : (why other : AgentFault) → refused why ≡ refused other → why ≡ other
+fault-is : (why other : CreateFault) → refused why ≡ refused other → why ≡ other
 fault-is why other e = cc
 
 there : status.Ok ≡ status.Exists → ⊥
@@ -45,41 +44,34 @@ made-new honest set host host' agent creates = record {
 }
 
 -- memory ran out
-pub want-new : (honest : Type 0) (set : Settings) (host host' : Seen) (why : AgentFault) → Creates honest host set (Err why) host' → (why ≡ fault.Exists → ⊥) → (why ≡ fault.DiskFault → ⊥) → Makes honest set status.Memory host host'
-want-new honest set host host' why creates known stored = by why creates.faults refl
+pub want-new : (honest : Type 0) (set : Settings) (host host' : Seen) → Creates honest host set (refused fault.Memory) host' → Makes honest set status.Memory host host'
+want-new honest set host host' creates = record {
+  any_moment = creates.any_moment;
+  created = λ e. absurd (other e);
+  none = λ e. absurd (other e);
+  memory = λ _ h. creates.memory refl h;
+  memory_moment = λ _ h. creates.memory_moment refl h;
+  exists = λ e. absurd (found e);
+  made = λ h made. (inr (inr refl), (creates.made h made).1);
+  made_moment = creates.made_moment;
+  statuses = inr (inr (inr refl));
+  disk_cause = cause-as host.disk_faults host'.disk_faults (refused fault.Memory ≡ refused fault.DiskFault) (status.Memory ≡ status.DiskFault) (λ e. absurd (torn e)) (λ e. absurd (apart (fault-is fault.Memory fault.DiskFault e))) creates.cause;
+  bound = creates.bound;
+  only_here = creates.only_here;
+  tells = creates.tells;
+}
   where
-    is-short : why ≡ fault.Memory → Makes honest set status.Memory host host'
-    is-short is = record {
-      any_moment = creates.any_moment;
-      created = λ ok. absurd (done ok);
-      none = λ ok. absurd (done ok);
-      memory = λ _ h. creates.memory (ap refused is) h;
-      memory_moment = λ _ h. creates.memory_moment (ap refused is) h;
-      exists = λ e. absurd (found e);
-      made = λ h made. (inr (inr refl), (creates.made h made).1);
-      made_moment = creates.made_moment;
-      statuses = inr (inr (inr refl));
-      disk_cause =
-          cause-as host.disk_faults host'.disk_faults (refused why ≡ refused fault.DiskFault) (status.Memory ≡ status.DiskFault) (λ e. absurd (torn e)) (λ e. absurd (stored (fault-is why fault.DiskFault e))) creates.cause;
-      bound = creates.bound;
-      only_here = creates.only_here;
-      tells = creates.tells;
-    }
-      where
-        done : status.Memory ≡ status.Ok → ⊥
-        done e = cc
+    other : status.Memory ≡ status.Ok → ⊥
+    other e = cc
 
-        found : status.Memory ≡ status.Exists → ⊥
-        found e = cc
+    found : status.Memory ≡ status.Exists → ⊥
+    found e = cc
 
-        torn : status.Memory ≡ status.DiskFault → ⊥
-        torn e = cc
+    torn : status.Memory ≡ status.DiskFault → ⊥
+    torn e = cc
 
-    by : (f : AgentFault) → IsCreating f → why ≡ f → Makes honest set status.Memory host host'
-    by fault.DiskFault is e = absurd (stored e)
-    by fault.Exists is e = absurd (known e)
-    by fault.Memory is e = is-short e
-    by other is e = absurd is
+    apart : fault.Memory ≡ fault.DiskFault → ⊥
+    apart e = cc
 
 -- there is a database
 pub exists-new : (honest : Type 0) (set : Settings) (host host' : Seen) → Creates honest host set (refused fault.Exists) host' → Makes honest set status.Exists host host'

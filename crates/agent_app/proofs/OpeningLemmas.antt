@@ -15,10 +15,11 @@ use Rattle.collect_block.specs.Feed.{CountsFor, IsFeedOf}
 use Rattle.tier_settings.specs.declared.settings.Settings.{Settings}
 use Rattle.line_stream.specs.Run.{input_limit, Ended, Ran}
 use Rattle.line_stream.proofs.RunLemmas.{rose-later, Takes-none}
+use Rattle.store_core.specs.declared.fault.Why.{Why}
 use Rattle.store_core.specs.disk.Shares.{share}
 use Rattle.store_core.specs.Stands.{is_made}
-use Rattle.agent_core.specs.declared.fault.AgentFault.{AgentFault}
-use Rattle.agent_core.specs.declared.fault.AgentFault.TheVariants as fault
+use Rattle.agent_core.specs.declared.fault.OpenFault.{OpenFault}
+use Rattle.agent_core.specs.declared.fault.OpenFault.TheVariants as fault
 use Rattle.agent_core.specs.Agent.{AgentState, IsAgentOf}
 use Rattle.agent_core.specs.Calls.{Opens}
 use Rattle.host_model.specs.Seen.{Seen}
@@ -30,7 +31,8 @@ use Rattle.link_session.proofs.StoreLemmas.{stands-all}
 use Rattle.agent_app.specs.declared.running.Running.{Running}
 use Rattle.agent_app.specs.Bound.{GrowsBy}
 use Rattle.agent_app.specs.Run.{ends_a_run, finds_none, history_with_text, is_opened, Finds, is_whole, IsAsFound, IsHostAsFound, LeavesOthers, run_every, run_output, run_reading, run_rules, run_status, HasRunCause, Resumes, Runs, RunsAll, Stores}
-use Rattle.agent_app.specs.Running.{opening_status, run_acts, Counts, DiskRose, IsRunning, TellRose}
+use Rattle.agent_app.specs.Running.{run_acts, Counts, DiskRose, IsRunning, TellRose}
+use Rattle.agent_app.specs.Statuses.{opening_status}
 use Rattle.agent_app.proofs.BoundLemmas.{ends-behind, run-grows, unopened-grows}
 use Rattle.agent_app.proofs.CauseLemmas.{both-counts, cause-as, stayed}
 use Rattle.agent_core.proofs.StoredLemmas.{were_kept}
@@ -63,36 +65,33 @@ complete-by left None text P takes shows = subst (λ (o : Option (List ℕ)). If
 complete-by left (Some more) text P takes shows = subst (λ (o : Option (List ℕ)). IfSome o P) (sym takes) (shows more refl)
 
 -- ---- the database was not opened
-abbrev pub opened_with : AgentState → Result AgentState AgentFault
+abbrev pub opened_with : AgentState → Result AgentState OpenFault
 opened_with agent = Ok agent
 
-abbrev pub failed_by : AgentFault → Result AgentState AgentFault
+abbrev pub failed_by : OpenFault → Result AgentState OpenFault
 failed_by why = Err why
 
-pub fault-is : (why other : AgentFault) → failed_by why ≡ failed_by other → why ≡ other
+pub fault-is : (why other : OpenFault) → failed_by why ≡ failed_by other → why ≡ other
 fault-is why other e = cc
 
 module _ (honest : Type 0) (host host' : Seen) (first : honest → IsDisk host.past (reads_as host.past)) where
   -- by which fault it was not
-  pub by-fault : (P : AgentFault → Type 0) (why : AgentFault) → (why ≡ fault.DiskFault) ⊎ (why ≡ fault.Memory) → P fault.DiskFault → P fault.Memory → P why
+  pub by-fault : (P : OpenFault → Type 0) (why : OpenFault) → (why ≡ fault.DiskFault) ⊎ (why ≡ fault.Memory) → P fault.DiskFault → P fault.Memory → P why
   by-fault P why (inl is) disk memory = subst P (sym is) disk
   by-fault P why (inr is) disk memory = subst P (sym is) memory
 
-  pub untold-yet : (why : AgentFault) → opening_status why ≡ status.TellFault → ⊥
+  pub untold-yet : (why : OpenFault) → opening_status why ≡ status.TellFault → ⊥
   untold-yet fault.NotADatabase e = cc
   untold-yet fault.DiskFault e = cc
   untold-yet (fault.Damaged part) e = cc
-  untold-yet other e = apart e
-    where
-      apart : status.Memory ≡ status.TellFault → ⊥
-      apart e = cc
+  untold-yet fault.Memory e = cc
 
   -- nothing was stored or told
-  pub unopened-stores : (why : AgentFault) → Opens honest host (Err why) host' → honest → (every : ℕ) (set : Settings) (h0 : List Beat) → EveryDisk (StandsForHistory set h0) host.past
+  pub unopened-stores : (why : OpenFault) → Opens honest host (Err why) host' → honest → (every : ℕ) (set : Settings) (h0 : List Beat) → EveryDisk (StandsForHistory set h0) host.past
       → Stores (opening_status why) every set h0 false [] host.past host'.past
   unopened-stores why opens h every set h0 stands =
       let which = opens.stands h set h0 (stands (reads_as host.past) (first h)) in
-      let short : is_whole (opening_status why) ≡ false = by-fault (λ (f : AgentFault). is_whole (opening_status f) ≡ false) why which refl refl in
+      let short : is_whole (opening_status why) ≡ false = by-fault (λ (f : OpenFault). is_whole (opening_status f) ≡ false) why which refl refl in
       record {
         crashes = opening-crashes set h0 host.past host'.past stands (opens.only_here h).output (opens.any_moment h);
         ends = λ all. absurd (true≢false (sym all ∙ short));
@@ -100,7 +99,7 @@ module _ (honest : Type 0) (host host' : Seen) (first : honest → IsDisk host.p
         told_for = λ is. absurd (untold-yet why is);
       }
 
-  unopened-runs : (why : AgentFault) → Opens honest host (Err why) host' → (left : Option (List ℕ)) (source_rose : Type 0) → honest → (set : Settings) (h0 : List Beat) → EveryDisk (StandsForHistory set h0) host.past
+  unopened-runs : (why : OpenFault) → Opens honest host (Err why) host' → (left : Option (List ℕ)) (source_rose : Type 0) → honest → (set : Settings) (h0 : List Beat) → EveryDisk (StandsForHistory set h0) host.past
       → Runs (opening_status why) run_every set h0 left left host.past host'.past source_rose (TellRose host host') (DiskRose host host')
   unopened-runs why opens left source_rose h set h0 stands =
       let which = opens.stands h set h0 (stands (reads_as host.past) (first h)) in
@@ -112,51 +111,42 @@ module _ (honest : Type 0) (host host' : Seen) (first : honest → IsDisk host.p
         at_end = λ e. absurd (true≢false (sym e));
         stores = unopened-stores why opens h run_every set h0 stands;
         cause =
-            by-fault (λ (f : AgentFault). why ≡ f → HasRunCause (opening_status f) false (run_reading run_every set h0 false []).ending [] source_rose (TellRose host host') (DiskRose host host')) why which
-            (λ is. opens.cause.failed (ap (λ (f : AgentFault). Err f) is)) (λ is. tt) refl;
+            by-fault (λ (f : OpenFault). why ≡ f → HasRunCause (opening_status f) false (run_reading run_every set h0 false []).ending [] source_rose (TellRose host host') (DiskRose host host')) why which
+            (λ is. opens.cause.failed (ap (λ (f : OpenFault). Err f) is)) (λ is. tt) refl;
       }
 
-  unopened-resumes : (why : AgentFault) → Opens honest host (Err why) host' → (left : Option (List ℕ)) (source_rose : Type 0) → honest → (set : Settings) (h0 : List Beat) → StandsForHistory set h0 (reads_as host.past)
+  unopened-resumes : (why : OpenFault) → Opens honest host (Err why) host' → (left : Option (List ℕ)) (source_rose : Type 0) → honest → (set : Settings) (h0 : List Beat) → StandsForHistory set h0 (reads_as host.past)
       → Resumes (opening_status why) run_every set h0 left left host.past host'.past source_rose (TellRose host host') (DiskRose host host')
   unopened-resumes why opens left source_rose h set h0 here = record {
     read = host'.past;
     before = opens.any_moment h;
     silent = (opens.only_here h).output;
-    after = inr (by-fault (λ (f : AgentFault). (opening_status f ≡ status.DiskFault) ⊎ (opening_status f ≡ status.Memory)) why (opens.stands h set h0 here) (inl refl) (inr refl), refl, refl);
+    after = inr (by-fault (λ (f : OpenFault). (opening_status f ≡ status.DiskFault) ⊎ (opening_status f ≡ status.Memory)) why (opens.stands h set h0 here) (inl refl) (inr refl), refl, refl);
   }
 
-  unopened-whole : (why : AgentFault) → Opens honest host (Err why) host' → honest → (set : Settings) (h0 : List Beat) → EveryDisk (StandsForHistory set h0) host.past → (text : List ℕ) → (DiskRose host host' → ⊥)
+  unopened-whole : (why : OpenFault) → Opens honest host (Err why) host' → honest → (set : Settings) (h0 : List Beat) → EveryDisk (StandsForHistory set h0) host.past → (text : List ℕ) → (DiskRose host host' → ⊥)
       → (opening_status why ≡ run_status run_every set h0 text) ⊎ (opening_status why ≡ status.Memory)
   unopened-whole why opens h set h0 stands text none =
       let which = opens.stands h set h0 (stands (reads_as host.past) (first h)) in
-      by-fault (λ (f : AgentFault). why ≡ f → (opening_status f ≡ run_status run_every set h0 text) ⊎ (opening_status f ≡ status.Memory)) why which
-      (λ is. absurd (none (opens.cause.failed (ap (λ (f : AgentFault). Err f) is)))) (λ is. inr refl) refl
+      by-fault (λ (f : OpenFault). why ≡ f → (opening_status f ≡ run_status run_every set h0 text) ⊎ (opening_status f ≡ status.Memory)) why which
+      (λ is. absurd (none (opens.cause.failed (ap (λ (f : OpenFault). Err f) is)))) (λ is. inr refl) refl
 
-  unopened-none : (why : AgentFault) → Opens honest host (Err why) host' → opening_status why ≡ status.NotADatabase → honest → is_made (reads_as host.past) ≡ false
+  unopened-none : (why : OpenFault) → Opens honest host (Err why) host' → opening_status why ≡ status.NotADatabase → honest → is_made (reads_as host.past) ≡ false
   unopened-none fault.NotADatabase opens is h = opens.none refl h
-  unopened-none fault.DiskFault opens is h = absurd (apart is)
-    where
-      apart : status.DiskFault ≡ status.NotADatabase → ⊥
-      apart e = cc
-  unopened-none (fault.Damaged part) opens is h = absurd (apart is)
-    where
-      apart : status.Damaged part ≡ status.NotADatabase → ⊥
-      apart e = cc
-  unopened-none other opens is h = absurd (apart is)
-    where
-      apart : status.Memory ≡ status.NotADatabase → ⊥
-      apart e = cc
+  unopened-none fault.DiskFault opens is h = cc
+  unopened-none (fault.Damaged part) opens is h = cc
+  unopened-none fault.Memory opens is h = cc
 
-  unopened-unmade : (why : AgentFault) → Opens honest host (Err why) host' → honest → is_made (reads_as host.past) ≡ false
+  unopened-unmade : (why : OpenFault) → Opens honest host (Err why) host' → honest → is_made (reads_as host.past) ≡ false
       → (opening_status why ≡ status.NotADatabase) ⊎ (opening_status why ≡ status.DiskFault) ⊎ (opening_status why ≡ status.Memory)
   unopened-unmade fault.NotADatabase opens h unmade = inl refl
   unopened-unmade fault.DiskFault opens h unmade = inr (inl refl)
   unopened-unmade (fault.Damaged part) opens h unmade = absurd (true≢false (sym (opens.made part refl h) ∙ unmade))
-  unopened-unmade other opens h unmade = inr (inr refl)
+  unopened-unmade fault.Memory opens h unmade = inr (inr refl)
 
-  unopened-damaged : (why : AgentFault) → Opens honest host (Err why) host' → (part : ℕ) → opening_status why ≡ status.Damaged part → honest → (set : Settings) (g : List Beat) → StandsForHistory set g (reads_as host.past) → ⊥
+  unopened-damaged : (why : OpenFault) → Opens honest host (Err why) host' → (part : ℕ) → opening_status why ≡ status.Damaged part → honest → (set : Settings) (g : List Beat) → StandsForHistory set g (reads_as host.past) → ⊥
   unopened-damaged why opens part is h set g stands =
-      by-fault (λ (f : AgentFault). opening_status f ≡ status.Damaged part → ⊥) why (opens.stands h set g stands) disk memory is
+      by-fault (λ (f : OpenFault). opening_status f ≡ status.Damaged part → ⊥) why (opens.stands h set g stands) disk memory is
     where
       disk : status.DiskFault ≡ status.Damaged part → ⊥
       disk e = cc
@@ -165,95 +155,71 @@ module _ (honest : Type 0) (host host' : Seen) (first : honest → IsDisk host.p
       memory e = cc
 
   -- which part is damaged
-  damaged-by : (why : AgentFault) (part : ℕ) → opening_status why ≡ status.Damaged part → why ≡ fault.Damaged part
+  damaged-by : (why : OpenFault) (part : ℕ) → opening_status why ≡ status.Damaged part → why ≡ fault.Damaged part
   damaged-by (fault.Damaged other) part is = ap fault.Damaged (same other part is)
     where
       same : (a b : ℕ) → status.Damaged a ≡ status.Damaged b → a ≡ b
       same a b e = cc
-  damaged-by fault.DiskFault part is = absurd (apart is)
-    where
-      apart : status.DiskFault ≡ status.Damaged part → ⊥
-      apart e = cc
-  damaged-by fault.NotADatabase part is = absurd (apart is)
-    where
-      apart : status.NotADatabase ≡ status.Damaged part → ⊥
-      apart e = cc
-  damaged-by other part is = absurd (apart is)
-    where
-      apart : status.Memory ≡ status.Damaged part → ⊥
-      apart e = cc
+  damaged-by fault.DiskFault part is = cc
+  damaged-by fault.NotADatabase part is = cc
+  damaged-by fault.Memory part is = cc
 
-  unopened-parts : (why : AgentFault) → Opens honest host (Err why) host' → (part : ℕ) → opening_status why ≡ status.Damaged part → (1 ≤ part) × (part ≤ 5)
+  unopened-parts : (why : OpenFault) → Opens honest host (Err why) host' → (part : ℕ) → opening_status why ≡ status.Damaged part → (1 ≤ part) × (part ≤ 5)
   unopened-parts why opens part is = subst IsOpening (damaged-by why part is) opens.faults
 
   -- no such status says that the database was opened
-  unopened-all : (why : AgentFault) → is_opened (opening_status why) ≡ false
+  unopened-all : (why : OpenFault) → is_opened (opening_status why) ≡ false
   unopened-all (fault.Damaged part) = refl
   unopened-all fault.DiskFault = refl
   unopened-all fault.NotADatabase = refl
-  unopened-all other = refl
+  unopened-all fault.Memory = refl
 
   -- the source was not asked, and nothing was told
-  pub unread : (why : AgentFault) → opening_status why ≡ status.ReadFault → ⊥
+  pub unread : (why : OpenFault) → opening_status why ≡ status.ReadFault → ⊥
   unread fault.NotADatabase e = cc
   unread fault.DiskFault e = cc
   unread (fault.Damaged part) e = cc
-  unread other e = apart e
-    where
-      apart : status.Memory ≡ status.ReadFault → ⊥
-      apart e = cc
+  unread fault.Memory e = cc
 
-  opening-statuses : (why : AgentFault) → (ends_a_run (opening_status why) ≡ true) ⊎ (finds_none (opening_status why) ≡ true)
+  opening-statuses : (why : OpenFault) → (ends_a_run (opening_status why) ≡ true) ⊎ (finds_none (opening_status why) ≡ true)
   opening-statuses fault.NotADatabase = inr refl
   opening-statuses fault.DiskFault = inl refl
   opening-statuses (fault.Damaged part) = inr refl
-  opening-statuses other = inl refl
+  opening-statuses fault.Memory = inl refl
 
-  full : (why : AgentFault) → opening_status why ≡ status.InputLimit → ⊥
+  full : (why : OpenFault) → opening_status why ≡ status.InputLimit → ⊥
   full fault.NotADatabase e = cc
   full fault.DiskFault e = cc
   full (fault.Damaged part) e = cc
-  full other e = apart e
-    where
-      apart : status.Memory ≡ status.InputLimit → ⊥
-      apart e = cc
+  full fault.Memory e = cc
 
-  pub disk-failed : (why : AgentFault) → opening_status why ≡ status.DiskFault → failed_by why ≡ failed_by fault.DiskFault
+  pub disk-failed : (why : OpenFault) → opening_status why ≡ status.DiskFault → failed_by why ≡ failed_by fault.DiskFault
   disk-failed fault.DiskFault is = refl
-  disk-failed fault.NotADatabase is = absurd (apart is)
-    where
-      apart : status.NotADatabase ≡ status.DiskFault → ⊥
-      apart e = cc
-  disk-failed (fault.Damaged part) is = absurd (apart is)
-    where
-      apart : status.Damaged part ≡ status.DiskFault → ⊥
-      apart e = cc
-  disk-failed other is = absurd (apart is)
-    where
-      apart : status.Memory ≡ status.DiskFault → ⊥
-      apart e = cc
+  disk-failed fault.NotADatabase is = cc
+  disk-failed (fault.Damaged part) is = cc
+  disk-failed fault.Memory is = cc
 
-  pub unopened-host : (why : AgentFault) → Opens honest host (Err why) host' → IsHostAsFound honest host host'
+  pub unopened-host : (why : OpenFault) → Opens honest host (Err why) host' → IsHostAsFound honest host host'
   unopened-host why opens = record { output = λ h. (opens.only_here h).output; tells = opens.tells; any_moment = opens.any_moment; same = opens.same }
 
-  pub unopened-leaves : (why : AgentFault) → Opens honest host (Err why) host' → (left : Option (List ℕ)) (faults : ℕ) → IsAsFound honest left left faults faults host host'
+  pub unopened-leaves : (why : OpenFault) → Opens honest host (Err why) host' → (left : Option (List ℕ)) (faults : ℕ) → IsAsFound honest left left faults faults host host'
   unopened-leaves why opens left faults = record { source = (refl, refl); host_is = unopened-host why opens }
 
-  pub unopened-finds : (why : AgentFault) → Opens honest host (Err why) host' → Finds honest (opening_status why) host
+  pub unopened-finds : (why : OpenFault) → Opens honest host (Err why) host' → Finds honest (opening_status why) host
   unopened-finds why opens = record {
     none = λ is h. unopened-none why opens is h;
     unmade = λ h unmade. unopened-unmade why opens h unmade;
     damaged = λ part is h set g stands. unopened-damaged why opens part is h set g stands;
     parts = λ part is. unopened-parts why opens part is;
-    made = λ part is h. opens.made part (ap (λ (f : AgentFault). Err f) (damaged-by why part is)) h;
-    damaged_files = λ part low is h. opens.damaged part low (ap (λ (f : AgentFault). Err f) (damaged-by why part is)) h;
-    damaged_part = λ part low is h. opens.parts part low (ap (λ (f : AgentFault). Err f) (damaged-by why part is)) h;
-    damaged_first = λ part other is h. opens.first part other (ap (λ (f : AgentFault). Err f) (damaged-by why part is)) h;
-    damaged_notes = λ is h. opens.damaged_notes (ap (λ (f : AgentFault). Err f) (damaged-by why 5 is)) h;
+    made = λ part is h. opens.made part (ap (λ (f : OpenFault). Err f) (damaged-by why part is)) h;
+    damaged_files = λ part low is h. opens.damaged part low (ap (λ (f : OpenFault). Err f) (damaged-by why part is)) h;
+    damaged_part = λ part low is h. opens.parts part low (ap (λ (f : OpenFault). Err f) (damaged-by why part is)) h;
+    damaged_first = λ part other is h. opens.first part other (ap (λ (f : OpenFault). Err f) (damaged-by why part is)) h;
+    damaged_notes = λ is h. opens.damaged_notes (ap (λ (f : OpenFault). Err f) (damaged-by why 5 is)) h;
     opened = λ is h. absurd (true≢false (sym is ∙ unopened-all why));
   }
 
-  pub unopened : (why : AgentFault) → Opens honest host (Err why) host' → (left : Option (List ℕ)) (faults : ℕ) → RunsAll honest (opening_status why) left left faults faults host host'
+  pub unopened : (why : OpenFault) → Opens honest host (Err why) host' → (left : Option (List ℕ)) (faults : ℕ) → RunsAll honest (opening_status why) left left faults faults host host'
   unopened why opens left faults = record {
     runs = λ h set h0 stands. unopened-runs why opens left (Rose faults faults) h set h0 stands;
     resumes = λ h set h0 here. unopened-resumes why opens left (Rose faults faults) h set h0 here;
@@ -278,6 +244,10 @@ found-one : (s : Status) → finds_none s ≡ true → ends_a_run s ≡ true →
 found-one status.NotADatabase none ends = true≢false (sym ends)
 found-one (status.Damaged part) none ends = true≢false (sym ends)
 found-one s none ends = true≢false (sym none)
+
+-- it answers no call with Reopen
+pub opened-going : (honest : Type 0) (host : Seen) (agent : AgentState) (middle : Seen) → Opens honest host (Ok agent) middle → (cause : Why) → agent.fault ≡ Some cause → ⊥
+opened-going honest host agent middle opens cause spent = let none : agent.fault ≡ None = opens.going in cc
 
 -- the disk did not fail
 pub opened-disk : (honest : Type 0) (host : Seen) (agent : AgentState) (middle : Seen) → Opens honest host (Ok agent) middle → middle.disk_faults ≡ host.disk_faults

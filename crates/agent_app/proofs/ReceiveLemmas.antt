@@ -1,5 +1,5 @@
 -- What `receive` promises: where the database was opened, and where it was not.
-use Rattle.std.proofs.Common.{◌≡◌, ◌⊎◌, inl, inr, ℕ, ◌<◌, Bool, true, false, List, [], ◌∷◌, ◌++◌, length, take, drop, None, Ok, Err, Some, IfSome, IsErrOf, refl, sym, ap, subst, ◌∙◌, append_assoc, append-nil, true≢false, arith, if◌then◌else◌}
+use Rattle.std.proofs.Common.{◌≡◌, ◌⊎◌, inl, inr, ℕ, ◌<◌, Bool, true, false, List, [], ◌∷◌, ◌++◌, length, take, drop, None, Ok, Err, Some, IfErr, IfSome, IsErrOf, refl, sym, ap, subst, ◌∙◌, append_assoc, append-nil, true≢false, arith, if◌then◌else◌}
 use Rattle.std.specs.List.{AllByRecursion}
 use Rattle.std.proofs.Math.Seq.{drop-append_seam}
 use Rattle.std.proofs.lemmas.List.{take-append-drop}
@@ -21,9 +21,12 @@ use Rattle.plugin_text.specs.Refusal.{refusal_number}
 use Rattle.replication.specs.Copies.{RisesFrom}
 use Rattle.link_frames.specs.declared.frame.Frame.{Frame}
 use Rattle.link_frames.specs.Frames.{HasSpelling}
+use Rattle.store_core.specs.declared.fault.Why.{Why}
+use Rattle.store_core.specs.declared.fault.Why.TheVariants as spent_for
 use Rattle.tier_settings.specs.declared.settings.Settings.{Settings}
-use Rattle.agent_core.specs.declared.fault.AgentFault.{AgentFault}
 use Rattle.agent_core.specs.declared.fault.AgentFault.TheVariants as fault
+use Rattle.agent_core.specs.declared.fault.OpenFault.{OpenFault}
+use Rattle.agent_core.specs.declared.fault.OpenFault.TheVariants as open_fault
 use Rattle.agent_core.specs.Agent.{AgentState, IsAgentOf}
 use Rattle.agent_core.specs.Calls.{Opens}
 use Rattle.agent_core.specs.Copies.{seen_moment, IsCopyOfChild, SeenBeat}
@@ -33,7 +36,7 @@ use Rattle.link_session.specs.declared.fault.SessionFault.TheVariants as session
 use Rattle.link_session.specs.Exchange.{SessionResult}
 use Rattle.link_session.specs.Keeps.{Extends, IsAckedUpTo, Keeps, LeavesFiles, no_more}
 use Rattle.link_session.specs.Parent.{done_with, parent_begins, parent_does}
-use Rattle.link_session.specs.Receiving.{is_spent_by, keeps_all, AnswersStored, AreTrueOf, Copies, FailsAtData, HasStored, ReceivesHistory}
+use Rattle.link_session.specs.Receiving.{is_spent_by, keeps_all, AnswersStored, AreTrueOf, Copies, FailsAtData, HasStored, IsReceiving, ReceivesHistory}
 use Rattle.link_session.specs.Session.{says_all, IsEndFor, LinkSeen}
 use Rattle.link_session.proofs.AckLemmas.{acked-more, acked-since, acked-weaker}
 use Rattle.link_session.proofs.LinkLemmas.{all-sends, sends-nothing}
@@ -46,12 +49,13 @@ use Rattle.agent_app.specs.Bound.{GrowsBy}
 use Rattle.agent_app.specs.Convert.{is_limit, refusal_line, refusal_status}
 use Rattle.agent_app.specs.Receive.{ends_a_receive, last_line, Closes, EndsAs, HoldsCopy, Receives, ReceivesAll, ReceivesOn, TellsWhy}
 use Rattle.agent_app.specs.Run.{finds_none, is_whole, LeavesOthers, OnceRead}
-use Rattle.agent_app.specs.Running.{opening_status, TellRose, TellsRefusal}
+use Rattle.agent_app.specs.Running.{TellRose, TellsRefusal}
 use Rattle.agent_app.specs.Sessions.{session_status, EndsAsBytes}
+use Rattle.agent_app.specs.Statuses.{opening_status}
 use Rattle.agent_app.proofs.AckLemmas.{acked-refusal, middle-none, refusal-some}
 use Rattle.agent_app.proofs.BoundLemmas.{grows-before, opened-grows, refusal-written, runs-grow, unopened-grows}
 use Rattle.agent_app.proofs.CauseLemmas.{apart, cause-as, refusal-inside, stayed, stayed-before}
-use Rattle.agent_app.proofs.OpeningLemmas.{by-fault, complete-by, disk-failed, failed_by, fault-is, found-finds, opened-disk, opening-crashes, some-each, unopened-finds, unopened-host, untold-yet}
+use Rattle.agent_app.proofs.OpeningLemmas.{by-fault, complete-by, disk-failed, failed_by, fault-is, found-finds, opened-disk, opened-going, opening-crashes, some-each, unopened-finds, unopened-host, untold-yet}
 use Rattle.agent_app.proofs.SendLemmas.{ended_with, opening-none, unlinked}
 use Rattle.agent_app.proofs.SessionLemmas.{ends-as-bytes, NoFault}
 
@@ -104,30 +108,36 @@ refusal-unlinked line why e = true≢false (sym (ap is_link e) ∙ by (is_limit 
     by true = refl
     by false = refl
 
-quiet-status : (r : SessionResult) → is_refused r ≡ false → ends_a_receive (session_status r) ≡ true
-quiet-status (Ok done) other = refl
-quiet-status (Err session.LinkFault) other = refl
-quiet-status (Err (session.Agent (fault.Refused why))) other = absurd (true≢false other)
-quiet-status (Err (session.Agent fault.DiskFault)) other = refl
-quiet-status (Err (session.Agent why)) other = refl
-quiet-status (Err (session.PeerRefused why)) other = refl
-quiet-status (Err session.Ended) other = refl
-quiet-status (Err session.InputLimit) other = refl
-quiet-status (Err session.TellFault) other = refl
-quiet-status (Err session.Memory) other = refl
+quiet-status : (r : SessionResult) → IfErr r IsReceiving → is_refused r ≡ false → ends_a_receive (session_status r) ≡ true
+quiet-status (Ok done) is other = refl
+quiet-status (Err session.LinkFault) is other = refl
+quiet-status (Err (session.Agent (fault.Refused why))) is other = absurd (true≢false other)
+quiet-status (Err (session.Agent (fault.Health why))) is other = absurd is
+quiet-status (Err (session.Agent fault.DiskFault)) is other = refl
+quiet-status (Err (session.Agent (fault.Reopen spent_for.Disk))) is other = refl
+quiet-status (Err (session.Agent (fault.Reopen spent_for.Memory))) is other = refl
+quiet-status (Err (session.Agent fault.Memory)) is other = refl
+quiet-status (Err (session.PeerRefused why)) is other = refl
+quiet-status (Err session.Ended) is other = refl
+quiet-status (Err session.InputLimit) is other = refl
+quiet-status (Err session.TellFault) is other = refl
+quiet-status (Err session.Memory) is other = refl
 
 -- at a status that says that all was stored and told, all was that the session had to store and to tell
-whole-keeps : (r : SessionResult) → is_whole (session_status r) ≡ true → keeps_all r ≡ true
-whole-keeps (Ok done) all = refl
-whole-keeps (Err session.LinkFault) all = refl
-whole-keeps (Err (session.Agent (fault.Refused why))) all = refl
-whole-keeps (Err (session.Agent fault.DiskFault)) all = absurd (true≢false (sym all))
-whole-keeps (Err (session.Agent why)) all = absurd (true≢false (sym all))
-whole-keeps (Err (session.PeerRefused why)) all = refl
-whole-keeps (Err session.Ended) all = refl
-whole-keeps (Err session.InputLimit) all = refl
-whole-keeps (Err session.TellFault) all = absurd (true≢false (sym all))
-whole-keeps (Err session.Memory) all = absurd (true≢false (sym all))
+whole-keeps : (r : SessionResult) → IfErr r IsReceiving → is_whole (session_status r) ≡ true → keeps_all r ≡ true
+whole-keeps (Ok done) is all = refl
+whole-keeps (Err session.LinkFault) is all = refl
+whole-keeps (Err (session.Agent (fault.Refused why))) is all = refl
+whole-keeps (Err (session.Agent (fault.Health why))) is all = absurd is
+whole-keeps (Err (session.Agent fault.DiskFault)) is all = absurd (true≢false (sym all))
+whole-keeps (Err (session.Agent (fault.Reopen spent_for.Disk))) is all = absurd (true≢false (sym all))
+whole-keeps (Err (session.Agent (fault.Reopen spent_for.Memory))) is all = absurd (true≢false (sym all))
+whole-keeps (Err (session.Agent fault.Memory)) is all = absurd (true≢false (sym all))
+whole-keeps (Err (session.PeerRefused why)) is all = refl
+whole-keeps (Err session.Ended) is all = refl
+whole-keeps (Err session.InputLimit) is all = refl
+whole-keeps (Err session.TellFault) is all = absurd (true≢false (sym all))
+whole-keeps (Err session.Memory) is all = absurd (true≢false (sym all))
 
 no-link : status.Memory ≡ status.LinkFault → ⊥
 no-link e = cc
@@ -142,41 +152,49 @@ stored-told : status.DiskFault ≡ status.TellFault → ⊥
 stored-told e = cc
 
 -- a part of the outside failed exactly where the status says so
-link-failed : (r : SessionResult) → is_refused r ≡ false → session_status r ≡ status.LinkFault → r ≡ ended_with session.LinkFault
-link-failed (Ok done) other e = cc
-link-failed (Err session.LinkFault) other e = refl
-link-failed (Err (session.Agent (fault.Refused why))) other e = absurd (true≢false other)
-link-failed (Err (session.Agent fault.DiskFault)) other e = cc
-link-failed (Err (session.Agent why)) other e = absurd (no-link e)
-link-failed (Err (session.PeerRefused why)) other e = cc
-link-failed (Err session.Ended) other e = cc
-link-failed (Err session.InputLimit) other e = cc
-link-failed (Err session.TellFault) other e = cc
-link-failed (Err session.Memory) other e = cc
+link-failed : (r : SessionResult) → IfErr r IsReceiving → is_refused r ≡ false → session_status r ≡ status.LinkFault → r ≡ ended_with session.LinkFault
+link-failed (Ok done) is other e = cc
+link-failed (Err session.LinkFault) is other e = refl
+link-failed (Err (session.Agent (fault.Refused why))) is other e = absurd (true≢false other)
+link-failed (Err (session.Agent (fault.Health why))) is other e = absurd is
+link-failed (Err (session.Agent fault.DiskFault)) is other e = cc
+link-failed (Err (session.Agent (fault.Reopen spent_for.Disk))) is other e = cc
+link-failed (Err (session.Agent (fault.Reopen spent_for.Memory))) is other e = cc
+link-failed (Err (session.Agent fault.Memory)) is other e = cc
+link-failed (Err (session.PeerRefused why)) is other e = cc
+link-failed (Err session.Ended) is other e = cc
+link-failed (Err session.InputLimit) is other e = cc
+link-failed (Err session.TellFault) is other e = cc
+link-failed (Err session.Memory) is other e = cc
 
-tell-failed : (r : SessionResult) → is_refused r ≡ false → session_status r ≡ status.TellFault → r ≡ ended_with session.TellFault
-tell-failed (Ok done) other e = cc
-tell-failed (Err session.LinkFault) other e = cc
-tell-failed (Err (session.Agent (fault.Refused why))) other e = absurd (true≢false other)
-tell-failed (Err (session.Agent fault.DiskFault)) other e = cc
-tell-failed (Err (session.Agent why)) other e = absurd (no-tell e)
-tell-failed (Err (session.PeerRefused why)) other e = cc
-tell-failed (Err session.Ended) other e = cc
-tell-failed (Err session.InputLimit) other e = cc
-tell-failed (Err session.TellFault) other e = refl
-tell-failed (Err session.Memory) other e = cc
+tell-failed : (r : SessionResult) → IfErr r IsReceiving → is_refused r ≡ false → session_status r ≡ status.TellFault → r ≡ ended_with session.TellFault
+tell-failed (Ok done) is other e = cc
+tell-failed (Err session.LinkFault) is other e = cc
+tell-failed (Err (session.Agent (fault.Refused why))) is other e = absurd (true≢false other)
+tell-failed (Err (session.Agent (fault.Health why))) is other e = absurd is
+tell-failed (Err (session.Agent fault.DiskFault)) is other e = cc
+tell-failed (Err (session.Agent (fault.Reopen spent_for.Disk))) is other e = cc
+tell-failed (Err (session.Agent (fault.Reopen spent_for.Memory))) is other e = cc
+tell-failed (Err (session.Agent fault.Memory)) is other e = cc
+tell-failed (Err (session.PeerRefused why)) is other e = cc
+tell-failed (Err session.Ended) is other e = cc
+tell-failed (Err session.InputLimit) is other e = cc
+tell-failed (Err session.TellFault) is other e = refl
+tell-failed (Err session.Memory) is other e = cc
 
-store-failed : (r : SessionResult) → is_refused r ≡ false → session_status r ≡ status.DiskFault → r ≡ ended_with (session.Agent fault.DiskFault)
-store-failed (Ok done) other e = cc
-store-failed (Err session.LinkFault) other e = cc
-store-failed (Err (session.Agent (fault.Refused why))) other e = absurd (true≢false other)
-store-failed (Err (session.Agent fault.DiskFault)) other e = refl
-store-failed (Err (session.Agent why)) other e = absurd (no-disk e)
-store-failed (Err (session.PeerRefused why)) other e = cc
-store-failed (Err session.Ended) other e = cc
-store-failed (Err session.InputLimit) other e = cc
-store-failed (Err session.TellFault) other e = cc
-store-failed (Err session.Memory) other e = cc
+store-failed : (r : SessionResult) → IfErr r IsReceiving → ((cause : Why) → r ≡ ended_with (session.Agent (fault.Reopen cause)) → ⊥) → is_refused r ≡ false → session_status r ≡ status.DiskFault → r ≡ ended_with (session.Agent fault.DiskFault)
+store-failed (Ok done) is going other e = cc
+store-failed (Err session.LinkFault) is going other e = cc
+store-failed (Err (session.Agent (fault.Refused why))) is going other e = absurd (true≢false other)
+store-failed (Err (session.Agent (fault.Health why))) is going other e = absurd is
+store-failed (Err (session.Agent fault.DiskFault)) is going other e = refl
+store-failed (Err (session.Agent (fault.Reopen cause))) is going other e = absurd (going cause refl)
+store-failed (Err (session.Agent fault.Memory)) is going other e = cc
+store-failed (Err (session.PeerRefused why)) is going other e = cc
+store-failed (Err session.Ended) is going other e = cc
+store-failed (Err session.InputLimit) is going other e = cc
+store-failed (Err session.TellFault) is going other e = cc
+store-failed (Err session.Memory) is going other e = cc
 
 found-one : (s : Status) → finds_none s ≡ true → ends_a_receive s ≡ true → ⊥
 found-one status.NotADatabase none ends = true≢false (sym ends)
@@ -288,6 +306,10 @@ record EndsSo (s : Status) (set : Settings) (h0 : List Beat) (link link' : LinkS
 module _ (honest : Type 0) (host : Seen) (agent : AgentState) (middle : Seen) (opens : Opens honest host (Ok agent) middle) (first : honest → IsDisk host.past (reads_as host.past))
     (link : LinkSeen) (result : SessionResult) (late : Seen) (agent' : AgentState) (link' : LinkSeen) (receives : ReceivesHistory honest middle agent link result late agent' link')
     (then_reads : honest → IsDisk middle.past (reads_as middle.past)) (late_reads : honest → IsDisk late.past (reads_as late.past)) where
+  -- the agent answers no call with Reopen
+  going : (cause : Why) → result ≡ ended_with (session.Agent (fault.Reopen cause)) → ⊥
+  going cause is = opened-going honest host agent middle opens cause (receives.stores.reopens cause is)
+
   -- over this history, since some moment
   module _ (h : honest) (set : Settings) (h0 : List Beat) (is-of : IsAgentOf middle.past agent set h0) (start : List Event) (silent : told middle.past ≡ told start)
       (opening : Throughout (EveryCrash (Keeps set h0 h0 (told start))) start middle.past) where
@@ -362,11 +384,11 @@ module _ (honest : Type 0) (host : Seen) (agent : AgentState) (middle : Seen) (o
     -- nothing was told behind
     -- the output failed only while a Data was told
     told-for : is_refused result ≡ false → session_status result ≡ status.TellFault → made ++ last_line result ≡ [] → ⊥
-    told-for other failed none = told-some set h0 taken ((receives.copies h set h0 is-of).told_for (tell-failed result other failed)) (middle-none [] made (last_line result) none)
+    told-for other failed none = told-some set h0 taken ((receives.copies h set h0 is-of).told_for (tell-failed result receives.faults other failed)) (middle-none [] made (last_line result) none)
 
     stored-for : is_refused result ≡ false → session_status result ≡ status.DiskFault → FailsAtData set h0 taken start late.past
     stored-for other failed =
-        let fails = (receives.copies h set h0 is-of).stored_for (ap is_spent_by (store-failed result other failed)) in
+        let fails = (receives.copies h set h0 is-of).stored_for (ap is_spent_by (store-failed result receives.faults going other failed)) in
         record { at = fails.at; tells = fails.tells ∙ ap (λ (t : List ℕ). t ++ (done_with set h0 fails.at.before).told) silent }
 
     quiet-receives : is_refused result ≡ false → EndsSo (session_status result) set h0 link link' start middle.past late.past
@@ -380,13 +402,13 @@ module _ (honest : Type 0) (host : Seen) (agent : AgentState) (middle : Seen) (o
             heard = (heard-same late.past refl).0;
             in_turn = (heard-same late.past refl).1;
             crashes = crashes;
-            ends = λ all. copies.ends (whole-keeps result all);
+            ends = λ all. copies.ends (whole-keeps result receives.faults all);
             output = record {
               said = copies.output.said;
               unsaid = copies.output.unsaid;
               whole = ap (λ (t : List ℕ). made ++ t) (quiet-line result other) ∙ append-nil made ∙ copies.output.whole;
               tells = tells;
-              complete = λ all. copies.output.complete (whole-keeps result all);
+              complete = λ all. copies.output.complete (whole-keeps result receives.faults all);
             };
             told_for = told-for other;
             copy = stays-copy late.past crashes;
@@ -536,7 +558,7 @@ module _ (honest : Type 0) (host : Seen) (agent : AgentState) (middle : Seen) (o
     ends = by how
       where
         by : ((is_refused result ≡ false) × (s ≡ session_status result) × (host' ≡ late)) ⊎ ((why : BlockFault) × Refusal-by why) → ends_a_receive s ≡ true
-        by (inl (other, is, same)) = ap ends_a_receive is ∙ quiet-status result other
+        by (inl (other, is, same)) = ap ends_a_receive is ∙ quiet-status result receives.faults other
         by (inr (why, (is, tells))) = refused-ends honest why s late host' tells
 
     found : finds_none s ≡ true → ⊥
@@ -554,7 +576,7 @@ module _ (honest : Type 0) (host : Seen) (agent : AgentState) (middle : Seen) (o
       where
         by : ((is_refused result ≡ false) × (s ≡ session_status result) × (host' ≡ late)) ⊎ ((why : BlockFault) × Refusal-by why) → HasCause link.faults link'.faults (s ≡ status.LinkFault)
         by (inl (other, is, same)) =
-            cause-as link.faults link'.faults (result ≡ ended_with session.LinkFault) (s ≡ status.LinkFault) (λ e. link-failed result other (sym is ∙ e)) (λ e. is ∙ ap session_status e) receives.cause
+            cause-as link.faults link'.faults (result ≡ ended_with session.LinkFault) (s ≡ status.LinkFault) (λ e. link-failed result receives.faults other (sym is ∙ e)) (λ e. is ∙ ap session_status e) receives.cause
         by (inr (why, (is, tells))) =
             stayed link.faults link'.faults (s ≡ status.LinkFault) (receives.cause.stays (sound why is session.LinkFault (not-link why))) (refused-unlinked honest why s late host' tells)
 
@@ -564,7 +586,7 @@ module _ (honest : Type 0) (host : Seen) (agent : AgentState) (middle : Seen) (o
         by : ((is_refused result ≡ false) × (s ≡ session_status result) × (host' ≡ late)) ⊎ ((why : BlockFault) × Refusal-by why) → HasCause middle.tell_faults host'.tell_faults (s ≡ status.TellFault)
         by (inl (other, is, same)) =
             subst (λ (p : Seen). HasCause middle.tell_faults p.tell_faults (s ≡ status.TellFault)) (sym same)
-            (cause-as middle.tell_faults late.tell_faults (result ≡ ended_with session.TellFault) (s ≡ status.TellFault) (λ e. tell-failed result other (sym is ∙ e)) (λ e. is ∙ ap session_status e) receives.stores.tells)
+            (cause-as middle.tell_faults late.tell_faults (result ≡ ended_with session.TellFault) (s ≡ status.TellFault) (λ e. tell-failed result receives.faults other (sym is ∙ e)) (λ e. is ∙ ap session_status e) receives.stores.tells)
         by (inr (why, (is, tells))) =
             stayed-before middle.tell_faults late.tell_faults host'.tell_faults (s ≡ status.TellFault) (receives.stores.tells.stays (sound why is session.TellFault (not-told why))) tells.cause
 
@@ -574,7 +596,7 @@ module _ (honest : Type 0) (host : Seen) (agent : AgentState) (middle : Seen) (o
         by : ((is_refused result ≡ false) × (s ≡ session_status result) × (host' ≡ late)) ⊎ ((why : BlockFault) × Refusal-by why) → HasCause middle.disk_faults host'.disk_faults (s ≡ status.DiskFault)
         by (inl (other, is, same)) =
             subst (λ (p : Seen). HasCause middle.disk_faults p.disk_faults (s ≡ status.DiskFault)) (sym same)
-            (cause-as middle.disk_faults late.disk_faults (result ≡ ended_with (session.Agent fault.DiskFault)) (s ≡ status.DiskFault) (λ e. store-failed result other (sym is ∙ e)) (λ e. is ∙ ap session_status e) receives.stores.disk)
+            (cause-as middle.disk_faults late.disk_faults (result ≡ ended_with (session.Agent fault.DiskFault)) (s ≡ status.DiskFault) (λ e. store-failed result receives.faults going other (sym is ∙ e)) (λ e. is ∙ ap session_status e) receives.stores.disk)
         by (inr (why, (is, tells))) =
             stayed middle.disk_faults host'.disk_faults (s ≡ status.DiskFault) (tells.disk ∙ receives.stores.disk.stays (sound why is (session.Agent fault.DiskFault) (not-stored why))) (refused-stored honest why s late host' tells)
 
@@ -631,13 +653,13 @@ module _ (honest : Type 0) (host : Seen) (agent : AgentState) (middle : Seen) (o
     }
 
 -- ---- it was not
-opening-ends : (why : AgentFault) → (ends_a_receive (opening_status why) ≡ true) ⊎ (finds_none (opening_status why) ≡ true)
-opening-ends fault.NotADatabase = inr refl
-opening-ends fault.DiskFault = inl refl
-opening-ends (fault.Damaged part) = inr refl
-opening-ends other = inl refl
+opening-ends : (why : OpenFault) → (ends_a_receive (opening_status why) ≡ true) ⊎ (finds_none (opening_status why) ≡ true)
+opening-ends open_fault.NotADatabase = inr refl
+opening-ends open_fault.DiskFault = inl refl
+opening-ends (open_fault.Damaged part) = inr refl
+opening-ends open_fault.Memory = inl refl
 
-module _ (honest : Type 0) (host host' : Seen) (first : honest → IsDisk host.past (reads_as host.past)) (why : AgentFault) (opens : Opens honest host (Err why) host') (link : LinkSeen) where
+module _ (honest : Type 0) (host host' : Seen) (first : honest → IsDisk host.past (reads_as host.past)) (why : OpenFault) (opens : Opens honest host (Err why) host') (link : LinkSeen) where
   -- nothing was heard, said, stored or told
   unheard : honest → (set : Settings) (h0 : List Beat) → EveryDisk (StandsForHistory set h0) host.past → (r : SessionResult) (s : Status) → EndsAs r s → says_all r ≡ false → IsEndFor r None [] [] link.left → is_whole s ≡ false → (s ≡ status.TellFault → ⊥)
       → Receives s set h0 link link host.past host'.past
@@ -687,7 +709,7 @@ module _ (honest : Type 0) (host host' : Seen) (first : honest → IsDisk host.p
     read = host'.past;
     before = opens.any_moment h;
     silent = (opens.only_here h).output;
-    after = inr (by-fault honest host host' first (λ (f : AgentFault). (opening_status f ≡ status.DiskFault) ⊎ (opening_status f ≡ status.Memory)) why (opens.stands h set h0 here) (inl refl) (inr refl), refl, refl);
+    after = inr (by-fault honest host host' first (λ (f : OpenFault). (opening_status f ≡ status.DiskFault) ⊎ (opening_status f ≡ status.Memory)) why (opens.stands h set h0 here) (inl refl) (inr refl), refl, refl);
   }
 
   unheard-link : HasCause link.faults link.faults (opening_status why ≡ status.LinkFault)
@@ -698,13 +720,13 @@ module _ (honest : Type 0) (host host' : Seen) (first : honest → IsDisk host.p
 
   unheard-disk : HasCause host.disk_faults host'.disk_faults (opening_status why ≡ status.DiskFault)
   unheard-disk =
-      cause-as host.disk_faults host'.disk_faults (failed_by why ≡ failed_by fault.DiskFault) (opening_status why ≡ status.DiskFault)
-      (disk-failed honest host host' first why) (λ e. ap opening_status (fault-is why fault.DiskFault e)) opens.cause
+      cause-as host.disk_faults host'.disk_faults (failed_by why ≡ failed_by open_fault.DiskFault) (opening_status why ≡ status.DiskFault)
+      (disk-failed honest host host' first why) (λ e. ap opening_status (fault-is why open_fault.DiskFault e)) opens.cause
 
   pub unopened-receives : ReceivesAll honest (opening_status why) link link host host'
   unopened-receives = record {
     receives = λ h set h0 stands.
-        by-fault honest host host' first (λ (f : AgentFault). Receives (opening_status f) set h0 link link host.past host'.past) why (opens.stands h set h0 (stands (reads_as host.past) (first h)))
+        by-fault honest host host' first (λ (f : OpenFault). Receives (opening_status f) set h0 link link host.past host'.past) why (opens.stands h set h0 (stands (reads_as host.past) (first h)))
         (unheard h set h0 stands (Err (session.Agent fault.DiskFault)) status.DiskFault refl refl tt refl stored-told) (unheard h set h0 stands (Err session.Memory) status.Memory refl refl tt refl no-tell);
     resumes = unheard-since;
     complete = λ h set h0 here. read-whole (opening_status why) set h0 link link host host' unheard-link unheard-tell unheard-disk host.past host'.past (unheard-since h set h0 here);

@@ -7,14 +7,17 @@ use Rattle.host_model.specs.Disks.{EveryDisk, reads_as}
 use Rattle.host_model.specs.Moments.{Throughout}
 use Rattle.host_model.specs.Past.{Event, of, told, IsDisk}
 use Rattle.host_model.specs.Seen.{Seen}
-use Rattle.agent_core.specs.declared.fault.AgentFault.{AgentFault}
 use Rattle.agent_core.specs.declared.fault.AgentFault.TheVariants as fault
+use Rattle.agent_core.specs.declared.fault.OpenFault.{OpenFault}
+use Rattle.agent_core.specs.declared.fault.OpenFault.TheVariants as open_fault
 use Rattle.agent_core.specs.Agent.{id_of, AgentState}
 use Rattle.agent_core.specs.Calls.{Opens}
 use Rattle.agent_core.specs.Copies.{data_of_history}
 use Rattle.agent_core.specs.Stands.{StandsForHistory}
 use Rattle.history.specs.History.{Beat}
 use Rattle.tier_settings.specs.declared.settings.Settings.{Settings}
+use Rattle.store_core.specs.declared.fault.Why.{Why}
+use Rattle.store_core.specs.declared.fault.Why.TheVariants as spent_for
 use Rattle.link_session.specs.Child.{child_begins, child_does}
 use Rattle.link_session.specs.declared.fault.SessionFault.{SessionFault}
 use Rattle.link_session.specs.declared.fault.SessionFault.TheVariants as session
@@ -23,12 +26,12 @@ use Rattle.link_session.specs.Sending.{IsSending, SendsHistory}
 use Rattle.link_session.specs.Session.{LinkSeen}
 use Rattle.link_session.proofs.StoreLemmas.{stands-all}
 use Rattle.agent_app.specs.Run.{finds_none}
-use Rattle.agent_app.specs.Running.{opening_status}
 use Rattle.agent_app.specs.Send.{ends_a_send, Sends, SendsAll}
 use Rattle.agent_app.specs.Sessions.{fault_status, session_status, EndsAsBytes}
+use Rattle.agent_app.specs.Statuses.{opening_status}
 use Rattle.agent_app.proofs.CauseLemmas.{cause-as, stayed}
 use Rattle.agent_app.proofs.SessionLemmas.{ends-as-bytes, NoFault}
-use Rattle.agent_app.proofs.OpeningLemmas.{by-fault, complete-by, disk-failed, failed_by, fault-is, found-finds, opened-disk, some-each, unopened-finds, unopened-host}
+use Rattle.agent_app.proofs.OpeningLemmas.{by-fault, complete-by, disk-failed, failed_by, fault-is, found-finds, opened-disk, opened-going, some-each, unopened-finds, unopened-host}
 
 abbrev pub ended_with : SessionFault → SessionResult
 ended_with why = Err why
@@ -38,7 +41,8 @@ ended_with why = Err why
 sending-ends : (why : SessionFault) → IsSending why → ends_a_send (fault_status why) ≡ true
 sending-ends session.LinkFault is = refl
 sending-ends (session.Agent fault.Memory) is = refl
-sending-ends (session.Agent (fault.Reopen cause)) is = refl
+sending-ends (session.Agent (fault.Reopen spent_for.Disk)) is = refl
+sending-ends (session.Agent (fault.Reopen spent_for.Memory)) is = refl
 sending-ends (session.Agent other) is = absurd is
 sending-ends (session.PeerRefused why) is = refl
 sending-ends session.Ended is = refl
@@ -55,53 +59,45 @@ found-one status.NotADatabase none ends = true≢false (sym ends)
 found-one (status.Damaged part) none ends = true≢false (sym ends)
 found-one s none ends = true≢false (sym none)
 
-opening-ends : (why : AgentFault) → (ends_a_send (opening_status why) ≡ true) ⊎ (finds_none (opening_status why) ≡ true)
-opening-ends fault.NotADatabase = inr refl
-opening-ends fault.DiskFault = inl refl
-opening-ends (fault.Damaged part) = inr refl
-opening-ends other = inl refl
+opening-ends : (why : OpenFault) → (ends_a_send (opening_status why) ≡ true) ⊎ (finds_none (opening_status why) ≡ true)
+opening-ends open_fault.NotADatabase = inr refl
+opening-ends open_fault.DiskFault = inl refl
+opening-ends (open_fault.Damaged part) = inr refl
+opening-ends open_fault.Memory = inl refl
 
 -- no database was opened
-pub opening-none : (why : AgentFault) → (finds_none (opening_status why) ≡ true) ⊎ (opening_status why ≡ status.DiskFault) ⊎ (opening_status why ≡ status.Memory)
-opening-none fault.NotADatabase = inl refl
-opening-none fault.DiskFault = inr (inl refl)
-opening-none (fault.Damaged part) = inl refl
-opening-none other = inr (inr refl)
+pub opening-none : (why : OpenFault) → (finds_none (opening_status why) ≡ true) ⊎ (opening_status why ≡ status.DiskFault) ⊎ (opening_status why ≡ status.Memory)
+opening-none open_fault.NotADatabase = inl refl
+opening-none open_fault.DiskFault = inr (inl refl)
+opening-none (open_fault.Damaged part) = inl refl
+opening-none open_fault.Memory = inr (inr refl)
 
-pub unlinked : (why : AgentFault) → opening_status why ≡ status.LinkFault → ⊥
-unlinked fault.NotADatabase e = cc
-unlinked fault.DiskFault e = cc
-unlinked (fault.Damaged part) e = cc
-unlinked other e = apart e
-  where
-    apart : status.Memory ≡ status.LinkFault → ⊥
-    apart e = cc
+pub unlinked : (why : OpenFault) → opening_status why ≡ status.LinkFault → ⊥
+unlinked open_fault.NotADatabase e = cc
+unlinked open_fault.DiskFault e = cc
+unlinked (open_fault.Damaged part) e = cc
+unlinked open_fault.Memory e = cc
 
--- a session that sends never asks the disk to keep anything
-sent-unstored : (r : SessionResult) → IfErr r IsSending → session_status r ≡ status.DiskFault → ⊥
-sent-unstored (Ok done) is e = apart e
-  where
-    apart : status.Ok ≡ status.DiskFault → ⊥
-    apart e = cc
-sent-unstored (Err session.LinkFault) is e = cc
-sent-unstored (Err (session.Agent fault.Memory)) is e = cc
-sent-unstored (Err (session.Agent (fault.Reopen cause))) is e = cc
-sent-unstored (Err (session.Agent other)) is e = absurd is
-sent-unstored (Err (session.PeerRefused why)) is e = cc
-sent-unstored (Err session.Ended) is e = cc
-sent-unstored (Err session.InputLimit) is e = cc
-sent-unstored (Err session.TellFault) is e = absurd is
-sent-unstored (Err session.Memory) is e = cc
+-- a session that sends never asks the disk to keep anything, where its agent is of use
+sent-unstored : (r : SessionResult) → IfErr r IsSending → ((cause : Why) → r ≡ ended_with (session.Agent (fault.Reopen cause)) → ⊥) → session_status r ≡ status.DiskFault → ⊥
+sent-unstored (Ok done) is going e = cc
+sent-unstored (Err session.LinkFault) is going e = cc
+sent-unstored (Err (session.Agent fault.Memory)) is going e = cc
+sent-unstored (Err (session.Agent (fault.Reopen cause))) is going e = going cause refl
+sent-unstored (Err (session.Agent other)) is going e = absurd is
+sent-unstored (Err (session.PeerRefused why)) is going e = cc
+sent-unstored (Err session.Ended) is going e = cc
+sent-unstored (Err session.InputLimit) is going e = cc
+sent-unstored (Err session.TellFault) is going e = absurd is
+sent-unstored (Err session.Memory) is going e = cc
 
 -- its status says that the link failed exactly where it did
 link-failed : (r : SessionResult) → IfErr r IsSending → session_status r ≡ status.LinkFault → r ≡ ended_with session.LinkFault
-link-failed (Ok done) is e = absurd (apart e)
-  where
-    apart : status.Ok ≡ status.LinkFault → ⊥
-    apart e = cc
+link-failed (Ok done) is e = cc
 link-failed (Err session.LinkFault) is e = refl
 link-failed (Err (session.Agent fault.Memory)) is e = cc
-link-failed (Err (session.Agent (fault.Reopen cause))) is e = cc
+link-failed (Err (session.Agent (fault.Reopen spent_for.Disk))) is e = cc
+link-failed (Err (session.Agent (fault.Reopen spent_for.Memory))) is e = cc
 link-failed (Err (session.Agent other)) is e = absurd is
 link-failed (Err (session.PeerRefused why)) is e = cc
 link-failed (Err session.Ended) is e = cc
@@ -141,6 +137,9 @@ module _ (honest : Type 0) (host : Seen) (agent : AgentState) (middle : Seen) (o
   ends : ends_a_send (session_status result) ≡ true
   ends = sent-ends result sends.faults
 
+  unstored : session_status result ≡ status.DiskFault → ⊥
+  unstored = sent-unstored result sends.faults (λ cause is. opened-going honest host agent middle opens cause (sends.reads.reopens cause is))
+
   found : finds_none (session_status result) ≡ true → ⊥
   found none = found-one (session_status result) none ends
 
@@ -152,7 +151,7 @@ module _ (honest : Type 0) (host : Seen) (agent : AgentState) (middle : Seen) (o
         status_is = refl;
         exchanges = sends.exchanges h set g is-of;
         stands = subst (λ (p : List Event). EveryDisk (StandsForHistory set g) p) (sym (quiet h)) (stands-all middle.past agent set g is-of);
-        unspent = sent-unstored result sends.faults;
+        unspent = unstored;
       }
 
   link-cause : HasCause link.faults link'.faults (session_status result ≡ status.LinkFault)
@@ -161,7 +160,7 @@ module _ (honest : Type 0) (host : Seen) (agent : AgentState) (middle : Seen) (o
       (link-failed result sends.faults) (λ is. ap session_status is) sends.cause
 
   disk-cause : HasCause host.disk_faults host'.disk_faults (session_status result ≡ status.DiskFault)
-  disk-cause = stayed host.disk_faults host'.disk_faults (session_status result ≡ status.DiskFault) (sends.reads.disk ∙ opened-disk honest host agent middle opens) (sent-unstored result sends.faults)
+  disk-cause = stayed host.disk_faults host'.disk_faults (session_status result ≡ status.DiskFault) (sends.reads.disk ∙ opened-disk honest host agent middle opens) unstored
 
   pub opened-sends : SendsAll honest (session_status result) link link' host host'
   opened-sends = record {
@@ -179,24 +178,24 @@ module _ (honest : Type 0) (host : Seen) (agent : AgentState) (middle : Seen) (o
     input = (id_of agent, inl (result, refl, sends.taking));
     leaves = λ none. absurd (found none);
     untaken = λ h none. absurd (none (opens.notes h));
-    unspent = λ is. absurd (sent-unstored result sends.faults is);
+    unspent = λ is. absurd (unstored is);
     link_cause = link-cause;
     disk_cause = disk-cause;
   }
 
 -- ---- it was not
-module _ (honest : Type 0) (host host' : Seen) (first : honest → IsDisk host.past (reads_as host.past)) (why : AgentFault) (opens : Opens honest host (Err why) host') (link : LinkSeen) where
+module _ (honest : Type 0) (host host' : Seen) (first : honest → IsDisk host.past (reads_as host.past)) (why : OpenFault) (opens : Opens honest host (Err why) host') (link : LinkSeen) where
   unread : honest → (set : Settings) (g : List Beat) → StandsForHistory set g (reads_as host.past) → (opening_status why ≡ status.DiskFault) ⊎ (opening_status why ≡ status.Memory)
   unread h set g here =
-      by-fault honest host host' first (λ (f : AgentFault). (opening_status f ≡ status.DiskFault) ⊎ (opening_status f ≡ status.Memory)) why (opens.stands h set g here) (inl refl) (inr refl)
+      by-fault honest host host' first (λ (f : OpenFault). (opening_status f ≡ status.DiskFault) ⊎ (opening_status f ≡ status.Memory)) why (opens.stands h set g here) (inl refl) (inr refl)
 
   unsent-link : HasCause link.faults link.faults (opening_status why ≡ status.LinkFault)
   unsent-link = stayed link.faults link.faults (opening_status why ≡ status.LinkFault) refl (unlinked why)
 
   unsent-disk : HasCause host.disk_faults host'.disk_faults (opening_status why ≡ status.DiskFault)
   unsent-disk =
-      cause-as host.disk_faults host'.disk_faults (failed_by why ≡ failed_by fault.DiskFault) (opening_status why ≡ status.DiskFault)
-      (disk-failed honest host host' first why) (λ e. ap opening_status (fault-is why fault.DiskFault e)) opens.cause
+      cause-as host.disk_faults host'.disk_faults (failed_by why ≡ failed_by open_fault.DiskFault) (opening_status why ≡ status.DiskFault)
+      (disk-failed honest host host' first why) (λ e. ap opening_status (fault-is why open_fault.DiskFault e)) opens.cause
 
   pub unopened-sends : SendsAll honest (opening_status why) link link host host'
   unopened-sends = record {

@@ -10,6 +10,7 @@ use Rattle.host_model.specs.Past.{Event, Told, of, told}
 use Rattle.host_model.proofs.MomentLemmas.{at_end}
 use Rattle.history.specs.declared.fault.BlockFault.{BlockFault}
 use Rattle.history.specs.declared.fault.BlockFault.TheVariants.{Unfinished}
+use Rattle.health_config.specs.declared.fault.ConfigFault.{ConfigFault}
 use Rattle.history.specs.declared.line.Line.{Line}
 use Rattle.history.specs.declared.line.Line.TheVariants as line
 use Rattle.history.specs.History.{Beat, collected}
@@ -40,7 +41,7 @@ use Rattle.agent_core.specs.Answers.{reply_of}
 use Rattle.agent_core.specs.Bound.{RunsWithin}
 use Rattle.agent_core.specs.Calls.{ClosesBeat, Lines}
 use Rattle.host_model.specs.Seen.{Seen}
-use Rattle.agent_core.specs.Faults.{LeavesAll, RefusedBy}
+use Rattle.agent_core.specs.Faults.{LeavesAll, RefusedBy, Reopens}
 use Rattle.agent_core.specs.Kept.{AreBeatsOf}
 use Rattle.agent_core.specs.Stands.{StandsForOneOf}
 use Rattle.agent_core.specs.Replies.{reply_text}
@@ -48,15 +49,18 @@ use Rattle.agent_core.specs.Roles.{copies}
 use Rattle.agent_core.specs.Rules.{history_with, line_refusal}
 use Rattle.agent_core.specs.Said.{Answers, IsSaid, TellsEvents}
 use Rattle.store_core.specs.Counts.{counted}
+use Rattle.store_core.specs.declared.fault.Why.{Why}
 use Rattle.link_session.specs.Keeps.{Extends, IsAckedUpTo, LeavesFiles}
 use Rattle.link_session.proofs.ExtendsLemmas.{extends-length}
 use Rattle.link_session.proofs.LeavesLemmas.{leaves-nothing, may-told, one-told}
 use Rattle.link_session.proofs.AckLemmas.{stored-some}
 use Rattle.agent_app.specs.declared.running.Running.{Running}
 use Rattle.agent_app.specs.Convert.{all_told, is_limit, refusal_line}
+use Rattle.agent_app.specs.Health.{fault_status}
 use Rattle.agent_app.specs.Reading.{Ending, HasRead, RefusedAt, Reading, lines_read, reading}
 use Rattle.agent_app.specs.Run.{history_with_text, is_whole, judged_after, line_rules, run_output, run_reading, run_rules, told_of, FailsAtMoment, HasRunCause, LeavesOthers}
 use Rattle.agent_app.specs.Running.{Counts, DiskRose, EndsRun, IsCutShort, IsRunning, IsTakers, Overflows, RunsAt, TakesLine, TellRose, TellsRefusal}
+use Rattle.agent_app.specs.Statuses.{agent_status}
 use Rattle.agent_app.proofs.CauseLemmas.{apart, both-counts, cause-as, counts-none, ended-as, ended-counts, ended_so, going-counts, is_outside, refusal-inside, same-counts, stayed, went_on}
 use Rattle.agent_core.proofs.ClosedLemmas.{text-line}
 use Rattle.agent_core.proofs.KeptLemmas.{copies-child}
@@ -66,6 +70,7 @@ use Rattle.agent_app.proofs.BoundLemmas.{cut-runs, refusal-runs}
 use Rattle.agent_app.proofs.EventLemmas.{acked-told, closed-told}
 use Rattle.agent_app.proofs.ExtendsLemmas.{extends-start, extends-text, lines-after}
 use Rattle.agent_app.proofs.HasReadLemmas.{read-ended, read-long, read-next, read-over, read-refused, read-unfinished, says-all, says-long, says-over, says-refused}
+use Rattle.agent_app.proofs.HealthLemmas.{fault-inside, fault-takers}
 use Rattle.agent_app.proofs.ReplyLemmas.{acked-reply, closed-reply, reply-some}
 use Rattle.agent_app.proofs.RunningLemmas.{line-taken, text-told}
 use Rattle.agent_app.proofs.StopsLemmas.{Behind, cut-stop, line-stop, output-behind, refusal-stop, want-stop, whole-stop}
@@ -151,6 +156,9 @@ some_reason fault = Some fault
 
 not-free : (fault : BlockFault) → some_reason fault ≡ no_reason → ⊥
 not-free fault e = cc
+
+abbrev untaken : AgentFault → Result Said AgentFault
+untaken why = Err why
 
 -- what a line for a reason against it leaves
 refused-leaves : (r : Result Said AgentFault) (fault : BlockFault) (P : Type 0) → RefusedBy (Some fault) r → IfErr r (λ (f : AgentFault). LeavesAll f → P) → P
@@ -331,7 +339,7 @@ module _ (honest : Type 0) (running : Running) (host : Seen) (number : ℕ) (byt
     unwritten h every set h0 prefix start going text next more whole none = written-by h every set h0 prefix start going text next more whole none middle (leaves-nothing middle.past)
 
     -- the disk failed, or memory ran out
-    pub torn-line : (status : Status) → is_whole status ≡ false → IsTakers status → (status ≡ TellFault → ⊥) → (status ≡ DiskFault → result ≡ Err agent_fault.DiskFault) → (result ≡ Err agent_fault.DiskFault → status ≡ DiskFault)
+    torn-line : (status : Status) → is_whole status ≡ false → IsTakers status → (status ≡ TellFault → ⊥) → (status ≡ DiskFault → result ≡ Err agent_fault.DiskFault) → (result ≡ Err agent_fault.DiskFault → status ≡ DiskFault)
         → ((ended : Bool) (ending : Ending Refusal) (text : List ℕ) → HasRunCause status ended ending text ⊥ (TellRose host middle) (DiskRose host middle))
         → TakesLine honest running host number bytes (Err status) now middle
     torn-line status part takers untold back on cause = record {
@@ -349,6 +357,44 @@ module _ (honest : Type 0) (running : Running) (host : Seen) (number : ℕ) (byt
       others = lined-others;
       bound = lined-runs;
     }
+
+    -- no line is refused as a health text is
+    health-line : (why : ConfigFault) → result ≡ Err (agent_fault.Health why) → TakesLine honest running host number bytes (Err (fault_status why)) now middle
+    health-line why failed = record {
+      run = λ h every set h0 prefix start going number_is.
+          absurd (subst (λ (r : Result Said AgentFault). RefusedBy (reason every going.read) r) failed (refused-by h every set h0 start going.read going.made going.at));
+      quiet = unwritten;
+      statuses = fault-takers why;
+      counts =
+          ended-counts host middle (fault_status why) (record {
+            tells = lined-tell (fault_status why ≡ TellFault) (apart (fault_status why) TellFault (fault-inside why) refl);
+            disk = lined-disk (fault_status why ≡ DiskFault) (λ e. absurd (apart (fault_status why) DiskFault (fault-inside why) refl e)) (λ disk. absurd (no-health (sym failed ∙ disk)));
+          });
+      others = lined-others;
+      bound = lined-runs;
+    }
+      where
+        no-health : untaken (agent_fault.Health why) ≡ untaken agent_fault.DiskFault → ⊥
+        no-health e = cc
+
+    -- an agent of use did not take it, which is no refusal: the disk failed, or memory ran out
+    pub failed-line : running.agent.fault ≡ None → (why : AgentFault) → result ≡ Err why → ((fault : BlockFault) → why ≡ agent_fault.Refused fault → ⊥) → TakesLine honest running host number bytes (Err (agent_status why)) now middle
+    failed-line going why failed unrefused = by why refl
+      where
+        no-disk : untaken agent_fault.Memory ≡ untaken agent_fault.DiskFault → ⊥
+        no-disk e = cc
+
+        spent : (cause : Why) → running.agent.fault ≡ Some cause → ⊥
+        spent cause is = cc
+
+        by : (f : AgentFault) → why ≡ f → TakesLine honest running host number bytes (Err (agent_status f)) now middle
+        by (agent_fault.Refused fault) e = absurd (unrefused fault e)
+        by (agent_fault.Health refused) e = health-line refused (failed ∙ ap untaken e)
+        by agent_fault.DiskFault e =
+            let is : result ≡ Err agent_fault.DiskFault = failed ∙ ap untaken e in
+            torn-line DiskFault refl tt (λ e. cc) (λ _. is) (λ _. refl) (λ ended ending text. lined.cause.failed is)
+        by (agent_fault.Reopen cause) e = absurd (spent cause (subst (λ (r : Result Said AgentFault). Reopens running.agent.fault r) (failed ∙ ap untaken e) lined.reopens))
+        by agent_fault.Memory e = torn-line Memory refl tt (λ e. cc) (λ e. cc) (λ disk. absurd (no-disk (sym (failed ∙ ap untaken e) ∙ disk))) (λ ended ending text. tt)
 
     -- it was taken, and nothing is told of it
     pub quiet-line : (reply : Said) → result ≡ Ok reply → ((every : ℕ) (set : Settings) (h0 : List Beat) (read : List Line) → (is_disable said ≡ false) × (told_of every set h0 read said ≡ [])) → TakesLine honest running host number bytes (Ok tt) now middle

@@ -5,7 +5,7 @@ use Rattle.host_model.specs.Disks.{reads_as}
 use Rattle.host_model.specs.Moments.{begins}
 use Rattle.host_model.specs.Past.{Event, IsDisk}
 use Rattle.host_model.specs.Seen.{Seen}
-use Rattle.agent_core.specs.declared.fault.AgentFault.TheVariants as fault
+use Rattle.agent_core.specs.declared.fault.OpenFault.TheVariants as fault
 use Rattle.agent_core.specs.Calls.{Opens, ReadsAsBefore}
 use Rattle.history.specs.History.{Beat}
 use Rattle.tier_settings.specs.declared.settings.Settings.{Settings}

@@ -18,3 +18,4 @@ pub mod Run
 pub mod Running
 pub mod Send
 pub mod Sessions
+pub mod Statuses

@@ -1,6 +1,5 @@
 -- What `query` and `log` promise.
-use Rattle.std.specs.Prelude.{◌≡◌, ◌⊎◌, ℕ, ◌<◌, List, [], ◌∷◌, ◌++◌, length, codes, true}
-use Rattle.std.specs.List.{flat_map}
+use Rattle.std.specs.Prelude.{◌≡◌, ◌⊎◌, ℕ, ◌<◌, List, length, drop, true}
 use Rattle.host_model.specs.Cause.{HasCause, Rose}
 use Rattle.host_model.specs.declared.file.File.{File}
 use Rattle.host_model.specs.declared.status.Status.{Status}
@@ -10,6 +9,7 @@ use Rattle.host_model.specs.Moments.{EveryCrash, Throughout}
 use Rattle.host_model.specs.Past.{told, IsDisk, TellsPrefix}
 use Rattle.host_model.specs.Seen.{Seen}
 use Rattle.history.specs.History.{Beat}
+use Rattle.query_text.specs.Asked.{joined}
 use Rattle.tier_settings.specs.declared.settings.Settings.{Settings}
 use Rattle.agent_core.specs.Agent.{AgentState, IsAgentOf}
 use Rattle.agent_core.specs.Answers.{reply_of}
@@ -18,15 +18,9 @@ use Rattle.agent_core.specs.Notes.{NotesGo}
 use Rattle.link_session.specs.Keeps.{LeavesFiles}
 use Rattle.agent_app.specs.Run.{is_whole, Finds, LeavesOthers}
 
--- words with a blank between two
-abbrev pub joined : List (List ℕ) → List ℕ
-joined [] = []
-joined (word ∷ others) = word ++ flat_map (λ other. codes " " ++ other) others
-
 -- the question that the words of a command line ask: those behind the first
 abbrev pub question_of : List (List ℕ) → List ℕ
-question_of [] = []
-question_of (command ∷ words) = joined words
+question_of words = joined (drop 1 words)
 
 -- the reply of a history to a question, that of a refusal too
 abbrev pub reply_for : List ℕ → Settings → List Beat → List ℕ

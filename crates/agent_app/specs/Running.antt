@@ -1,7 +1,7 @@
 -- A run under way: of which prefix of its text it is, and what its steps promise.
-use Rattle.std.specs.Prelude.{◌≡◌, ℕ, ◌+◌, Bool, true, false, List, [], ◌∷◌, ◌++◌, length, take, ◌⊎◌, Result, Ok, MatchResult, IfErr, IsErrOf}
+use Rattle.std.specs.Prelude.{◌≡◌, ℕ, ◌+◌, Bool, true, false, List, [], ◌∷◌, ◌++◌, length, take, ◌⊎◌, None, Result, Ok, MatchResult, IfErr, IsErrOf}
 use Rattle.host_model.specs.declared.status.Status.{Status}
-use Rattle.host_model.specs.declared.status.Status.TheVariants.{Ok as Done, Refused, Limit, TellFault, DiskFault, NotADatabase, Damaged, Memory}
+use Rattle.host_model.specs.declared.status.Status.TheVariants.{Ok as Done, Refused, Limit, TellFault, DiskFault, Memory}
 use Rattle.host_model.specs.Cause.{HasCause, Rose}
 use Rattle.host_model.specs.Moments.{Throughout, EveryCrash}
 use Rattle.host_model.specs.Past.{Event, Told, told, MayAdd}
@@ -13,8 +13,6 @@ use Rattle.plugin_text.specs.declared.refusal.Refusal.{Refusal}
 use Rattle.chart_registry.specs.Accepted.{AreAccepted, IsWithin}
 use Rattle.collect_block.specs.Feed.{CountsFor, IsFeedOf}
 use Rattle.tier_settings.specs.declared.settings.Settings.{Settings}
-use Rattle.agent_core.specs.declared.fault.AgentFault.{AgentFault}
-use Rattle.agent_core.specs.declared.fault.AgentFault.TheVariants as agent_fault
 use Rattle.agent_core.specs.Agent.{IsAgentOf, AgentIsReady}
 use Rattle.agent_core.specs.Bound.{RunsWithin}
 use Rattle.host_model.specs.Seen.{Seen}
@@ -95,6 +93,7 @@ pub record Counts (host host' : Seen) (tell_fault disk_fault : Type 0) : Type 0 
 -- what each call of the taker requires
 pub record IsFit (honest : Type 0) (running : Running) (host : Seen) : Type 0 where
   pub agent : AgentIsReady honest host.past running.agent
+  pub going : running.agent.fault ≡ None
   pub feed : IsFed running.feed
 
 -- the line was taken, or the run ends at it
@@ -142,10 +141,3 @@ run_acts honest seen = record {
   ends = λ running host count left status running' host'. EndsRun honest running (seen host) count left status (seen host');
   overflows = λ running host number status running' host'. Overflows honest running (seen host) number status (seen host');
 }
-
--- the status of a command whose database was not opened, or that wanted memory
-abbrev pub opening_status : AgentFault → Status
-opening_status agent_fault.DiskFault = DiskFault
-opening_status agent_fault.NotADatabase = NotADatabase
-opening_status (agent_fault.Damaged part) = Damaged part
-opening_status fault = Memory

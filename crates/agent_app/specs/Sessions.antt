@@ -2,12 +2,9 @@
 use Rattle.std.specs.Prelude.{◌≡◌, ℕ, ◌<◌, ◌≤◌, true, List, [], length, take, ◌⊎◌, Option, Some, None, Ok, Err}
 use Rattle.host_model.specs.declared.status.Status.{Status}
 use Rattle.host_model.specs.declared.status.Status.TheVariants as status
-use Rattle.plugin_text.specs.declared.refusal.Refusal.TheVariants as refusal
 use Rattle.line_stream.specs.Run.{input_limit}
 use Rattle.link_frames.specs.declared.frame.Frame.{Frame}
 use Rattle.link_frames.specs.Stream.{HandsOut, HasNoFrame, IsBad, IsOpen, IsTooLong}
-use Rattle.agent_core.specs.declared.fault.AgentFault.{AgentFault}
-use Rattle.agent_core.specs.declared.fault.AgentFault.TheVariants as agent
 use Rattle.link_session.specs.declared.fault.PeerFault.{PeerFault}
 use Rattle.link_session.specs.declared.fault.PeerFault.TheVariants.{WrongChild, BadFrame, FrameTooLong}
 use Rattle.link_session.specs.declared.fault.SessionFault.{SessionFault}
@@ -15,8 +12,8 @@ use Rattle.link_session.specs.declared.fault.SessionFault.TheVariants.{LinkFault
 use Rattle.link_session.specs.Exchange.{exchange, Course, SessionResult}
 use Rattle.link_session.specs.Session.{LinkSeen}
 use Rattle.link_session.specs.Taking.{TakesLink}
-use Rattle.agent_app.specs.Convert.{refusal_status}
 use Rattle.agent_app.specs.Run.{finds_none}
+use Rattle.agent_app.specs.Statuses.{agent_status}
 
 -- the number of a refusal between two agents
 abbrev pub peer_kind : PeerFault → ℕ
@@ -24,12 +21,7 @@ peer_kind WrongChild = 1
 peer_kind BadFrame = 2
 peer_kind FrameTooLong = 3
 
--- the status of a session that a fault of its agent ended; what comes of a link has no lines
-abbrev pub agent_status : AgentFault → Status
-agent_status (agent.Refused why) = refusal_status 0 (refusal.Block why)
-agent_status agent.DiskFault = status.DiskFault
-agent_status fault = status.Memory
-
+-- the status of a session that ended with this fault
 abbrev pub fault_status : SessionFault → Status
 fault_status LinkFault = status.LinkFault
 fault_status (Agent fault) = agent_status fault

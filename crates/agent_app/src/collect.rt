@@ -4,8 +4,8 @@ ghost use Rattle.history.specs.declared.limits.TheConstants.{UPDATE_EVERY_LIMIT}
 ghost use Rattle.agent_app.specs.Collect.{collector_of, halt_status, outside_of, program_of, CollectsAll};
 ghost use Rattle.agent_app.specs.Command.{IsCollector};
 
-use crate::run::opening_status;
 use crate::running::Running;
+use crate::statuses::opening_status;
 use agent_core::Agent;
 use fixed_num::WordsList;
 use host_model::{Clock, Host, Spawner, Status};

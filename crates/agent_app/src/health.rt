@@ -7,8 +7,8 @@ ghost use Rattle.agent_app.specs.Health.{fault_status, fault_text, is_limit, Con
 
 use crate::health_text::{HealthEnd, read_health};
 use crate::refusals::{push_words, refused_status};
-use crate::run::opening_status;
 use crate::running::{tell_stored, tell_text};
+use crate::statuses::{agent_status, opening_status};
 use agent_core::{Agent, AgentFault, ConfigFault};
 use host_model::{Host, Source, Status};
 use std::alloc::{AllocError, Global};
@@ -38,13 +38,14 @@ fn push_fault(
     out.push_str("\n")
 }
 
-/// The status of a text that is refused so.
-fn fault_status(fault: ConfigFault, line: u64, number: u32) -> Status
-    requires line { fault_line fault ≡ Some line }
-    requires number { fault_number fault ≡ Some number }
+/// The status of a text that is refused so. A fault of memory has no line and no number.
+pub(crate) fn fault_status(fault: ConfigFault) -> Status
     ensures { result ≡ fault_status fault }
 {
-    refused_status(is_limit(fault), line, number)
+    match (fault.line(), fault.number()) {
+        (Some(line), Some(number)) => refused_status(is_limit(fault), line, number),
+        _ => Status::Memory,
+    }
 }
 
 /// Tells why a text is refused, and says how the command ends.
@@ -64,7 +65,7 @@ fn tell_fault<H: Host>(alloc: Global, host: &mut H, fault: ConfigFault) -> Statu
         return Status::Memory;
     }
     match tell_text(host, out.as_str()) {
-        Ok(()) => fault_status(fault, line, number),
+        Ok(()) => fault_status(fault),
         Err(_) => Status::TellFault,
     }
 }
@@ -82,8 +83,7 @@ fn store<H: Host>(alloc: Global, agent: &mut Agent, text: &[u8], host: &mut H) -
             Err(status) => status,
         },
         Err(AgentFault::Health(fault)) => tell_fault(alloc, host, fault),
-        Err(AgentFault::DiskFault) => Status::DiskFault,
-        Err(fault) => opening_status(fault),
+        Err(fault) => agent_status(fault),
     }
 }
 

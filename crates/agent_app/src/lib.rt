@@ -61,6 +61,7 @@ mod run;
 mod running;
 mod send;
 mod sessions;
+mod statuses;
 
 pub use law::crashes_leave_what_was_stored;
 

@@ -8,7 +8,7 @@ use crate::command::Form;
 use crate::log_json::write_log_json;
 use crate::log_text::write_log;
 use crate::query::tell_reply;
-use crate::run::opening_status;
+use crate::statuses::{agent_status, opening_status};
 use agent_core::{Agent, Log};
 use fixed_num::Text;
 use host_model::{Host, Status};
@@ -32,7 +32,7 @@ fn tell_log<H: Host>(alloc: Global, agent: &Agent, form: Form, host: &mut H) -> 
 {
     let log = match agent.log() {
         Ok(log) => log,
-        Err(fault) => return opening_status(fault),
+        Err(fault) => return agent_status(fault),
     };
     match write_as(alloc, form, &log) {
         Ok(text) => tell_reply(host, text.as_str()),

@@ -4,7 +4,7 @@ ghost use Rattle.agent_app.specs.Command.{settings_for};
 ghost use Rattle.agent_app.specs.New.{Makes};
 
 use crate::command::Plan;
-use agent_core::{Agent, AgentFault, Settings};
+use agent_core::{Agent, CreateFault, Settings};
 use host_model::{Host, Status};
 use std::alloc::Global;
 
@@ -25,8 +25,8 @@ fn make<H: Host>(alloc: Global, settings: &Settings, host: &mut H) -> Status
 {
     match Agent::create(alloc, host, settings) {
         Ok(_agent) => Status::Ok,
-        Err(AgentFault::Exists) => Status::Exists,
-        Err(AgentFault::DiskFault) => Status::DiskFault,
-        Err(_) => Status::Memory,
+        Err(CreateFault::DiskFault) => Status::DiskFault,
+        Err(CreateFault::Exists) => Status::Exists,
+        Err(CreateFault::Memory) => Status::Memory,
     }
 }

@@ -1,56 +1,24 @@
 //! The command `query`: a question is answered from a database, in which nothing changes.
-ghost use Rattle.std.specs.Prelude.{◌≡◌, ◌⊎◌, ◌∷◌, ◌++◌, take, codes, None, IfOk, OnOk};
-ghost use Rattle.std.specs.List.{flat_map};
+ghost use Rattle.std.specs.Prelude.{◌≡◌, ◌<◌, ◌⊎◌, ◌∷◌, length, take, None, IfOk};
 ghost use Rattle.host_model.specs.Cause.{HasCause};
 ghost use Rattle.host_model.specs.Past.{Told, MayAdd};
 ghost use Rattle.agent_core.specs.Agent.{AgentIsReady};
-ghost use Rattle.agent_app.specs.Query.{joined, question_of, reply_for, Answering, Asks};
+ghost use Rattle.agent_app.specs.Query.{question_of, reply_for, Answering, Asks};
 
-use crate::run::opening_status;
 use crate::running::tell_text;
+use crate::statuses::{agent_status, opening_status};
 use agent_core::Agent;
 use fixed_num::{Text, WordsList};
 use host_model::{Host, Status};
+use query_text::join;
 use std::alloc::{AllocError, Global};
-
-/// Adds a blank and a word.
-fn push_word(text: &mut Text, word: &str) -> Result<(), AllocError>
-    ensures { OnOk result (text.new ≡ text.old ++ codes " " ++ word.now) }
-{
-    text.push_str(" ")?;
-    text.push_str(word)
-}
-
-/// Adds words, each with a blank before it.
-fn push_words(text: &mut Text, words: &[Text]) -> Result<(), AllocError>
-    ensures { OnOk result (text.new ≡ text.old ++ flat_map (λ word. codes " " ++ word) words.now) }
-{
-    for word in words {
-        push_word(text, word.as_str())?;
-    }
-    Ok(())
-}
-
-/// The words with a blank between two.
-fn join(alloc: Global, words: &[Text]) -> Result<Text, AllocError>
-    ensures { IfOk result (λ text. text ≡ joined words.now) }
-{
-    let [first, others @ ..] = words else {
-        return Ok(Text::new(alloc));
-    };
-    let mut text = first.clone()?;
-    push_words(&mut text, others)?;
-    Ok(text)
-}
 
 /// The question that the words behind the first ask.
 fn question(alloc: Global, words: &WordsList) -> Result<Text, AllocError>
+    requires { 0 < length words.now }
     ensures { IfOk result (λ text. text ≡ question_of words.now) }
 {
-    match words.as_slice() {
-        [] => Ok(Text::new(alloc)),
-        [_, words @ ..] => join(alloc, words),
-    }
+    join(alloc, &words.as_slice()[1..])
 }
 
 /// Tells a reply, and says how the command ends.
@@ -78,12 +46,13 @@ fn answer<H: Host>(agent: &mut Agent, text: &str, host: &mut H) -> Status
 {
     match agent.query(host, text) {
         Ok(reply) => tell_reply(host, reply.as_str()),
-        Err(fault) => opening_status(fault),
+        Err(fault) => agent_status(fault),
     }
 }
 
 /// Tells the reply of an agent to the question of these words.
 fn ask<H: Host>(alloc: Global, agent: &mut Agent, words: &WordsList, host: &mut H) -> Status
+    requires named { 0 < length words.now }
     requires ready { AgentIsReady H.honest (H.seen host.old).past agent.old }
     requires going { agent.old.fault ≡ None }
     ensures { Answering H.honest agent.old (reply_for (question_of words.now)) result
@@ -97,6 +66,7 @@ fn ask<H: Host>(alloc: Global, agent: &mut Agent, words: &WordsList, host: &mut 
 
 /// Opens the database, and tells the reply to the question that the words behind the first ask.
 pub fn query<H: Host>(alloc: Global, words: &WordsList, host: &mut H) -> Status
+    requires { 0 < length words.now }
     ensures { Asks H.honest (reply_for (question_of words.now)) result
         (H.seen host.old) (H.seen host.new) }
 {

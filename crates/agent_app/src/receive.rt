@@ -2,9 +2,9 @@
 ghost use Rattle.link_session.specs.Session.{link_seen};
 ghost use Rattle.agent_app.specs.Receive.{Closes, ReceivesAll};
 
-use crate::run::opening_status;
 use crate::running::tell_refusal;
 use crate::sessions::session_status;
+use crate::statuses::opening_status;
 use agent_core::{Agent, AgentFault};
 use host_model::{Host, Link, Status};
 use link_session::SessionFault;

@@ -1,30 +1,13 @@
 //! The command `run`: a text is read in pieces, and its beats are stored behind those of a database.
-ghost use Rattle.std.specs.Prelude.{◌≡◌};
 ghost use Rattle.agent_app.specs.Run.{RunsAll};
-ghost use Rattle.agent_app.specs.Running.{opening_status};
 
 use crate::running::Running;
-use agent_core::{Agent, AgentFault};
+use crate::statuses::opening_status;
+use agent_core::Agent;
 use history::USUAL_UPDATE_EVERY;
 use host_model::{Host, Source, Status};
 use line_stream::take_text;
 use std::alloc::Global;
-
-/// The status of a command whose database was not opened, or that wanted memory.
-pub(crate) fn opening_status(fault: AgentFault) -> Status
-    ensures { result ≡ opening_status fault }
-{
-    match fault {
-        AgentFault::DiskFault => Status::DiskFault,
-        AgentFault::NotADatabase => Status::NotADatabase,
-        AgentFault::Damaged(part) => Status::Damaged(part),
-        AgentFault::Refused(_)
-        | AgentFault::Health(_)
-        | AgentFault::Reopen(_)
-        | AgentFault::Exists
-        | AgentFault::Memory => Status::Memory,
-    }
-}
 
 /// Opens the database, stores the beats of a text behind those that it has, and tells each once it
 /// is stored.

@@ -14,6 +14,7 @@ ghost use Rattle.agent_core.specs.Replies.{reply_text};
 ghost use Rattle.agent_app.specs.Running.{run_acts, IsCutShort, IsFit, TellsRefusal, TakesLine};
 
 use crate::refusals::{push_refusal, refusal_status};
+use crate::statuses::agent_status;
 use agent_core::{Agent, AgentFault, Reply, Said, write_reply};
 use collect_block::Feed;
 use history::Line;
@@ -148,8 +149,7 @@ impl Running {
             Err(AgentFault::Refused(fault)) => {
                 Err(tell_refusal(self.alloc, host, number, Refusal::Block(fault)))
             }
-            Err(AgentFault::DiskFault) => Err(Status::DiskFault),
-            Err(_) => Err(Status::Memory),
+            Err(fault) => Err(agent_status(fault)),
         }
     }
 }

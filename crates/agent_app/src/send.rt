@@ -2,8 +2,8 @@
 ghost use Rattle.link_session.specs.Session.{link_seen};
 ghost use Rattle.agent_app.specs.Send.{SendsAll};
 
-use crate::run::opening_status;
 use crate::sessions::session_status;
+use crate::statuses::opening_status;
 use agent_core::Agent;
 use host_model::{Host, Link, Status};
 use std::alloc::Global;

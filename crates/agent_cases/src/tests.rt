@@ -1,7 +1,7 @@
 ghost use Rattle.std.specs.Prelude.{IfOk};
 ghost use Rattle.tier_settings.specs.Limits.{InLimits};
 
-use agent_core::{Agent, AgentFault, Settings};
+use agent_core::{Agent, OpenFault, Settings};
 use host_model::{CallList, File, Host, MemoryHost};
 use std::alloc::{AllocError, Global};
 use std::test::Fail;
@@ -39,11 +39,9 @@ fn view_of(agent: &Agent) -> Seen {
 }
 
 /// What the agent that is opened tells of itself.
-fn opened<H: Host>(alloc: Global, host: &mut H) -> Result<Seen, AgentFault> {
-    match Agent::open(alloc, host) {
-        Ok(agent) => Ok(view_of(&agent)),
-        Err(fault) => Err(fault),
-    }
+fn opened<H: Host>(alloc: Global, host: &mut H) -> Result<Seen, OpenFault> {
+    let agent = Agent::open(alloc, host)?;
+    Ok(view_of(&agent))
 }
 
 fn host_of(alloc: Global, fails: &[u64]) -> Result<MemoryHost, Fail> {

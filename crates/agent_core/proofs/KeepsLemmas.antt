@@ -21,7 +21,7 @@ use Rattle.store_core.specs.Counts.{raised}
 use Rattle.store_core.specs.Faults.{IsCheckpointFault, IsCommitFault, ReopensWith as StoreReopensWith}
 use Rattle.store_core.specs.Store.{IsReady, IsReplayed, StoreState}
 use Rattle.agent_core.specs.declared.fault.AgentFault.{AgentFault}
-use Rattle.agent_core.specs.declared.fault.AgentFault.TheVariants.{Refused, Health, DiskFault, NotADatabase, Damaged, Reopen, Exists, Memory}
+use Rattle.agent_core.specs.declared.fault.AgentFault.TheVariants.{Refused, Health, DiskFault, Reopen, Memory}
 use Rattle.agent_core.specs.Agent.{AgentIsReady, AgentState}
 use Rattle.agent_core.specs.Faults.{cause_of, fault_after, fault_of, IsSpending}
 use Rattle.agent_core.specs.Keeping.{KeepsStore}
@@ -86,11 +86,8 @@ checkpoint-spends fault given before is (inr (inr earlier)) reopens going = absu
 -- the disk failed where it did for the store
 store-cause : (old new : ℕ) (fault : StoreFault) (given : AgentFault) → given ≡ fault_of fault → HasCause old new (IsErrOf {T = Unit {0}} (Err fault) store.DiskFault) → HasCause old new (IsErrOf {T = Unit {0}} (Err given) DiskFault)
 store-cause old new store.DiskFault given is cause = record { later = cause.later; failed = λ disk. cause.failed refl; stays = λ other. absurd (other (ap (λ (f : AgentFault). Err f) is)) }
-store-cause old new store.NotADatabase given is cause = record { later = cause.later; failed = λ disk. absurd cc; stays = λ other. cause.stays (λ disk. absurd cc) }
-store-cause old new (store.Damaged part) given is cause = record { later = cause.later; failed = λ disk. absurd cc; stays = λ other. cause.stays (λ disk. absurd cc) }
 store-cause old new (store.MomentOrder last) given is cause = record { later = cause.later; failed = λ disk. absurd cc; stays = λ other. cause.stays (λ disk. absurd cc) }
 store-cause old new (store.Reopen why) given is cause = record { later = cause.later; failed = λ disk. absurd cc; stays = λ other. cause.stays (λ disk. absurd cc) }
-store-cause old new store.Exists given is cause = record { later = cause.later; failed = λ disk. absurd cc; stays = λ other. cause.stays (λ disk. absurd cc) }
 store-cause old new store.Memory given is cause = record { later = cause.later; failed = λ disk. absurd cc; stays = λ other. cause.stays (λ disk. absurd cc) }
 
 pub checkpoint-failed : (honest : Type 0) (host host' : Seen) (old new : StoreState) (fault : StoreFault) (given : AgentFault) → given ≡ fault_of fault → IsCheckpointFault fault
@@ -126,9 +123,6 @@ spent-never Memory spends none = none-some why.Memory (sym none)
 spent-never (Reopen cause) spends none = spends
 spent-never (Refused reason) spends none = spends
 spent-never (Health reason) spends none = spends
-spent-never NotADatabase spends none = spends
-spent-never (Damaged part) spends none = spends
-spent-never Exists spends none = spends
 
 -- the same fault, where something else would have been given
 same-fault : {T U : Type 0} (fault other : AgentFault) → IsErrOf {T = U} (Err fault) other → IsErrOf {T = T} (Err fault) other

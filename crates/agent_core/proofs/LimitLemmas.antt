@@ -171,7 +171,6 @@ pub entry-limits : (left left' : Noted) (found : Entry) → left' ≡ with_entry
 entry-limits left left' found made goes limits = subst (λ (l : Noted). HasLimits l.registry) (sym made) (by found goes)
   where
     by : (found : Entry) → entry_goes_on left found ≡ true → HasLimits (with_entry left found).registry
-    by (entry.Settings set) goes = limits
     by (entry.Collected found) goes = numbered-limits left.registry found (and_parts (may_collect left.role) (goes_on left.registry found) goes).1 limits
     by (entry.Copied found) goes =
         let copied = (and_parts (may_copy left.role) (copied_goes_on left.registry found) goes).1 in

@@ -6,7 +6,7 @@ use Rattle.health_config.specs.declared.fault.ConfigFault.{ConfigFault}
 use Rattle.history.specs.declared.fault.BlockFault.{BlockFault}
 use Rattle.store_core.specs.declared.fault.Why.{Why}
 use Rattle.agent_core.specs.declared.fault.AgentFault.{AgentFault}
-use Rattle.agent_core.specs.declared.fault.AgentFault.TheVariants.{Refused, Health, DiskFault, NotADatabase, Damaged, Reopen, Exists, Memory}
+use Rattle.agent_core.specs.declared.fault.AgentFault.TheVariants.{Refused, Health, DiskFault, Reopen, Memory}
 use Rattle.agent_core.specs.Faults.{HealthRefusedBy, IsHealthRefusal, IsReading, IsRefusal, IsSpending, LeavesAll, RefusedBy, Reopens, ReopensWith}
 
 pub always : {T E : Type 0} (P : Type 0) (result : Result T E) → P → OnOk result P
@@ -27,11 +27,6 @@ pub on_both : {T E : Type 0} (P Q R : Type 0) (result : Result T E) → OnOk res
 on_both P Q R (Ok value) first second shows = shows first second
 on_both P Q R (Err fault) first second shows = tt
 
--- and of which one speaks of its value
-pub if_both : {T E : Type 0} (result : Result T E) (Q : Type 0) (P R : T → Type 0) → OnOk result Q → IfOk result P → ((value : T) → Q → P value → R value) → IfOk result R
-if_both (Ok value) Q P R on if shows = shows value on if
-if_both (Err fault) Q P R on if shows = tt
-
 -- two things of its value
 pub both_if : {T E : Type 0} (result : Result T E) (P Q R : T → Type 0) → IfOk result P → IfOk result Q → ((value : T) → P value → Q value → R value) → IfOk result R
 both_if (Ok value) P Q R first second shows = shows value first second
@@ -48,9 +43,6 @@ fails-free before Memory reads reopens going = refl
 fails-free before (Reopen cause) reads reopens going = absurd (none-some cause (sym going ∙ reopens))
 fails-free before (Refused why) reads reopens going = absurd reads
 fails-free before (Health why) reads reopens going = absurd reads
-fails-free before NotADatabase reads reopens going = absurd reads
-fails-free before (Damaged part) reads reopens going = absurd reads
-fails-free before Exists reads reopens going = absurd reads
 
 -- a fault that spends an agent comes of one that was going
 pub spending-reopens : (before : Option Why) (fault : AgentFault) → IsSpending fault → before ≡ None → ReopensWith before fault
@@ -59,9 +51,6 @@ spending-reopens before Memory spends going = going
 spending-reopens before (Reopen cause) spends going = absurd spends
 spending-reopens before (Refused why) spends going = absurd spends
 spending-reopens before (Health why) spends going = absurd spends
-spending-reopens before NotADatabase spends going = absurd spends
-spending-reopens before (Damaged part) spends going = absurd spends
-spending-reopens before Exists spends going = absurd spends
 
 pub spending-changes : (fault : AgentFault) → IsSpending fault → LeavesAll fault → ⊥
 spending-changes DiskFault spends leaves = leaves
@@ -69,9 +58,6 @@ spending-changes Memory spends leaves = leaves
 spending-changes (Reopen cause) spends leaves = spends
 spending-changes (Refused why) spends leaves = spends
 spending-changes (Health why) spends leaves = spends
-spending-changes NotADatabase spends leaves = spends
-spending-changes (Damaged part) spends leaves = spends
-spending-changes Exists spends leaves = spends
 
 -- and no health text is refused with it
 pub spending-health : (fault : AgentFault) → IsSpending fault → IsHealthRefusal None fault
@@ -80,9 +66,6 @@ spending-health Memory spends = tt
 spending-health (Reopen cause) spends = absurd spends
 spending-health (Refused why) spends = absurd spends
 spending-health (Health why) spends = absurd spends
-spending-health NotADatabase spends = absurd spends
-spending-health (Damaged part) spends = absurd spends
-spending-health Exists spends = absurd spends
 
 -- memory that was short spends an agent that was going
 pub short-reopens : (before : Option Why) (fault : AgentFault) → fault ≡ Memory → before ≡ None → ReopensWith before fault
@@ -103,10 +86,7 @@ pub spending-refusal : (reason : Option BlockFault) (fault : AgentFault) → rea
 spending-refusal reason (Refused why) free spends = absurd spends
 spending-refusal reason (Health why) free spends = absurd spends
 spending-refusal reason DiskFault free spends = free
-spending-refusal reason NotADatabase free spends = absurd spends
-spending-refusal reason (Damaged part) free spends = absurd spends
 spending-refusal reason (Reopen cause) free spends = absurd spends
-spending-refusal reason Exists free spends = absurd spends
 spending-refusal reason Memory free spends = free
 
 -- ---- a call in which memory alone may have run out, of an agent that was going

@@ -29,8 +29,8 @@ use Rattle.side_codec.specs.declared.gap.GapSpan.{GapSpan}
 use Rattle.beat_tiers.specs.Tiers.{IsTier}
 use Rattle.store_core.specs.declared.beats.beat.Beat.{Beat as StoreBeat}
 use Rattle.beat_tiers.specs.declared.item.BeatPoint.{BeatPoint}
-use Rattle.agent_core.specs.declared.fault.AgentFault.{AgentFault}
-use Rattle.agent_core.specs.declared.fault.AgentFault.TheVariants.{Damaged, Memory}
+use Rattle.agent_core.specs.declared.fault.OpenFault.{OpenFault}
+use Rattle.agent_core.specs.declared.fault.OpenFault.TheVariants.{Damaged, Memory}
 use Rattle.agent_core.specs.declared.left.Left.{Left}
 use Rattle.agent_core.specs.declared.left.Role.TheVariants.{Collects, Copies}
 use Rattle.agent_core.specs.Kept.{copied_entry, copied_point, gap_entry, AreBeatsOf, IsBeatOf}
@@ -221,7 +221,6 @@ same-once left left' same charts dimensions =
 
 pub entry-once : (left left' : Noted) (found : Entry) → left' ≡ with_entry left found
     → AreApart same_chart left.registry.charts → AreApart same_dimension left.registry.dimensions → AreApart same_chart left'.registry.charts × AreApart same_dimension left'.registry.dimensions
-entry-once left left' (entry.Settings set) made charts dimensions = same-once left left' (ap (λ (l : Noted). l.registry) made) charts dimensions
 entry-once left left' (entry.Collected found) made charts dimensions = once-after left.registry left'.registry found (ap (λ (l : Noted). l.registry) made) charts dimensions
 entry-once left left' (entry.Copied found) made charts dimensions = once-after left.registry left'.registry (defined_by found) (ap (λ (l : Noted). l.registry) made) charts dimensions
 entry-once left left' (entry.Health text) made charts dimensions = same-once left left' (ap (λ (l : Noted). l.registry) made) charts dimensions
@@ -234,6 +233,6 @@ pub never-broken : (set : Settings) (g : List Beat) (beats : List StoreBeat) (be
     → takes_note (noted_in left) kept ≡ false → ⊥
 never-broken set g beats beat kept left are of was broken = true≢false (sym (beat-takes g beats are beat kept of (noted_in left) (noted-is set g left was)) ∙ broken)
 
-pub only-memory : (fault : AgentFault) → (fault ≡ Memory) ⊎ (fault ≡ Damaged 5) → (fault ≡ Damaged 5 → ⊥) → fault ≡ Memory
+pub only-memory : (fault : OpenFault) → (fault ≡ Memory) ⊎ (fault ≡ Damaged 5) → (fault ≡ Damaged 5 → ⊥) → fault ≡ Memory
 only-memory fault (inl memory) never = memory
 only-memory fault (inr damaged) never = absurd (never damaged)

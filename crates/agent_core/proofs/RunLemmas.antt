@@ -16,7 +16,7 @@ use Rattle.tier_settings.specs.declared.settings.Settings.{Settings}
 use Rattle.beat_tiers.specs.declared.kept.Kept.{Kept}
 use Rattle.store_core.specs.declared.fault.Why.{Why}
 use Rattle.agent_core.specs.declared.fault.AgentFault.{AgentFault}
-use Rattle.agent_core.specs.declared.fault.AgentFault.TheVariants.{Refused, Health, DiskFault, NotADatabase, Damaged, Reopen, Exists, Memory}
+use Rattle.agent_core.specs.declared.fault.AgentFault.TheVariants.{Refused, Health, DiskFault, Reopen, Memory}
 use Rattle.agent_core.specs.declared.reply.Reply.{Reply}
 use Rattle.agent_core.specs.declared.reply.Said.{Said}
 use Rattle.agent_core.specs.Agent.{AgentState, IsAgentOf, IsSoundBy}
@@ -80,10 +80,7 @@ spent-leaves P before (Err fault) cause spent reopens unchanged = unchanged (lea
     leaves (Refused why) reopens = tt
     leaves (Health why) reopens = tt
     leaves DiskFault reopens = absurd (none-some cause (sym reopens ∙ spent))
-    leaves NotADatabase reopens = absurd (none-some cause (sym reopens ∙ spent))
-    leaves (Damaged part) reopens = absurd (none-some cause (sym reopens ∙ spent))
     leaves (Reopen earlier) reopens = tt
-    leaves Exists reopens = absurd (none-some cause (sym reopens ∙ spent))
     leaves Memory reopens = absurd (none-some cause (sym reopens ∙ spent))
 
 module _ (honest : Type 0) (host host' : Seen) (agent agent' : AgentState) where

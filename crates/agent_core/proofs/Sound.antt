@@ -4,7 +4,6 @@ use Rattle.std.proofs.lemmas.Option.{none-some}
 use Rattle.host_model.specs.declared.file.File.{File}
 use Rattle.host_model.specs.Disks.{EveryDisk}
 use Rattle.host_model.proofs.MomentLemmas.{at_end}
-use Rattle.health_config.specs.declared.fault.ConfigFault.{ConfigFault}
 use Rattle.history.specs.declared.beat.OpenBeat.{OpenBeat}
 use Rattle.history.specs.declared.fault.BlockFault.{BlockFault}
 use Rattle.history.specs.declared.line.Line.{Line}
@@ -21,15 +20,14 @@ use Rattle.store_core.specs.declared.fault.Why.{Why}
 use Rattle.store_core.specs.declared.fault.Why.TheVariants as why
 use Rattle.beat_tiers.specs.declared.kept.Kept.{Kept}
 use Rattle.agent_core.specs.declared.fault.AgentFault.{AgentFault}
-use Rattle.agent_core.specs.declared.fault.AgentFault.TheVariants.{Refused, Health, DiskFault, NotADatabase, Damaged, Reopen, Exists, Memory}
+use Rattle.agent_core.specs.declared.fault.AgentFault.TheVariants.{Refused, Health, DiskFault, Reopen, Memory}
 use Rattle.agent_core.specs.declared.reply.Reply.{Reply}
 use Rattle.agent_core.specs.declared.reply.Said.{Said}
 use Rattle.agent_core.specs.Agent.{id_of, AgentState, IsAgentOf, IsSoundBy, IsSpentAfter}
-use Rattle.agent_core.specs.Calls.{agent_verdict, AnswersAsk, Beats, Keeps, Lines, Queries, Reads, SetsHealth, TakesData}
-use Rattle.agent_core.specs.Copying.{added_to, refusal_by}
+use Rattle.agent_core.specs.Calls.{AnswersAsk, Beats, Keeps, Lines, Queries, Reads, SetsHealth, TakesData}
+use Rattle.agent_core.specs.Copying.{added_to}
 use Rattle.host_model.specs.Seen.{Seen}
-use Rattle.agent_core.specs.Faults.{cause_of, fault_after, IsHealthRefusal, IsRefusal, LeavesAll, ReopensWith}
-use Rattle.agent_core.specs.Health.{health_refusal}
+use Rattle.agent_core.specs.Faults.{cause_of, fault_after, LeavesAll, ReopensWith}
 use Rattle.agent_core.specs.Kept.{onto}
 use Rattle.agent_core.specs.Stands.{StandsForPrefix, StandsForHealth, StandsForHistory, StandsForOneOf}
 use Rattle.agent_core.specs.Roles.{copies}
@@ -37,7 +35,6 @@ use Rattle.agent_core.specs.Rules.{beat_refusal, history_with, line_refusal}
 use Rattle.agent_core.specs.Sound.{closed_by, history_after, history_by, tried_after, tried_with}
 use Rattle.agent_core.proofs.CopyCalls.{adds-are}
 use Rattle.agent_core.proofs.KeptLemmas.{stays}
-use Rattle.agent_core.proofs.Outcomes.{fails-free}
 use Rattle.agent_core.proofs.StoredLemmas.{settings-of}
 
 never : (agent : AgentState) (cause : Why) → agent.fault ≡ Some cause → agent.fault ≡ None → ⊥
@@ -57,36 +54,8 @@ unstored fault = Err fault
 abbrev unsaid : AgentFault → Result Said AgentFault
 unsaid fault = Err fault
 
--- the faults of a call of an agent that was going
-abbrev IsCallFault : AgentFault → Type 0
-IsCallFault NotADatabase = ⊥
-IsCallFault (Damaged part) = ⊥
-IsCallFault Exists = ⊥
-IsCallFault fault = Unit {0}
-
-of-refusal : (reason : Option BlockFault) (fault : AgentFault) → IsRefusal reason fault → IsCallFault fault
-of-refusal reason (Refused why) refused = tt
-of-refusal reason (Health why) refused = tt
-of-refusal reason DiskFault refused = tt
-of-refusal reason NotADatabase refused = refused
-of-refusal reason (Damaged part) refused = refused
-of-refusal reason (Reopen cause) refused = tt
-of-refusal reason Exists refused = refused
-of-refusal reason Memory refused = tt
-
-of-health : (reason : Option ConfigFault) (fault : AgentFault) → IsHealthRefusal reason fault → IsCallFault fault
-of-health reason (Refused why) refused = tt
-of-health reason (Health why) refused = tt
-of-health reason DiskFault refused = tt
-of-health reason NotADatabase refused = refused
-of-health reason (Damaged part) refused = refused
-of-health reason (Reopen cause) refused = tt
-of-health reason Exists refused = refused
-of-health reason Memory refused = tt
-
 -- a call was refused with this fault
 record Failed (host : Seen) (agent : AgentState) (fault : AgentFault) (host' : Seen) (agent' : AgentState) : Type 0 where
-  pub possible : agent.fault ≡ None → IsCallFault fault
   pub unchanged : LeavesAll fault → (agent' ≡ agent) × (host' ≡ host)
   pub spends : agent.fault ≡ None → agent'.fault ≡ cause_of fault
   pub reopens : ReopensWith agent.fault fault
@@ -119,20 +88,14 @@ module _ (host : Seen) (agent : AgentState) (host' : Seen) (agent' : AgentState)
   of-going (Refused reason) did is_of images = let kept = did.unchanged tt in same kept.0 kept.1 (inl is_of)
   of-going (Health reason) did is_of images = let kept = did.unchanged tt in same kept.0 kept.1 (inl is_of)
   of-going DiskFault did is_of images = spent DiskFault why.Disk did is_of refl images
-  of-going NotADatabase did is_of images = absurd (did.possible is_of.going)
-  of-going (Damaged part) did is_of images = absurd (did.possible is_of.going)
   of-going (Reopen cause) did is_of images = let kept = did.unchanged tt in same kept.0 kept.1 (inl is_of)
-  of-going Exists did is_of images = absurd (did.possible is_of.going)
   of-going Memory did is_of images = spent Memory why.Memory did is_of refl images
 
   of-spent : (fault : AgentFault) → Did fault → IsSpentAfter host.past agent set h tried → IsSoundBy host'.past agent' set h (tried_with fault beats tried)
   of-spent (Refused reason) did was = let kept = did.unchanged tt in same kept.0 kept.1 (inr was)
   of-spent (Health reason) did was = let kept = did.unchanged tt in same kept.0 kept.1 (inr was)
   of-spent DiskFault did was = absurd (never agent was.cause was.spent did.reopens)
-  of-spent NotADatabase did was = absurd (never agent was.cause was.spent did.reopens)
-  of-spent (Damaged part) did was = absurd (never agent was.cause was.spent did.reopens)
   of-spent (Reopen cause) did was = let kept = did.unchanged tt in same kept.0 kept.1 (inr was)
-  of-spent Exists did was = absurd (never agent was.cause was.spent did.reopens)
   of-spent Memory did was = absurd (never agent was.cause was.spent did.reopens)
 
   -- a refused call keeps an agent sound
@@ -148,7 +111,6 @@ module _ (honest : Type 0) (host : Seen) (agent : AgentState) (beat : OpenBeat) 
 
   beat-failed : (fault : AgentFault) → Beats honest host agent beat moment (Err fault) host' agent' → Failed host agent fault host' agent'
   beat-failed fault did = record {
-    possible = λ going. of-refusal beat_reason fault (did.refused going);
     unchanged = did.unchanged;
     spends = λ going. did.fault ∙ ap (λ (f : Option Why). fault_after f (unstored fault)) going;
     reopens = did.reopens;
@@ -173,7 +135,6 @@ module _ (honest : Type 0) (host : Seen) (agent : AgentState) (beat : OpenBeat) 
 module _ (honest : Type 0) (host : Seen) (agent : AgentState) (text : List ℕ) (host' : Seen) (agent' : AgentState) (set : Settings) (h tried : List Beat) (true_host : honest) where
   health-failed : (fault : AgentFault) → SetsHealth honest host agent text (unstored fault) host' agent' → Failed host agent fault host' agent'
   health-failed fault did = record {
-    possible = λ going. of-health (health_refusal text) fault (did.refused going);
     unchanged = did.unchanged;
     spends = λ going. did.fault ∙ ap (λ (f : Option Why). fault_after f (unstored fault)) going;
     reopens = did.reopens;
@@ -202,7 +163,6 @@ module _ (honest : Type 0) (host : Seen) (agent : AgentState) (feed : Feed) (lin
 
   line-failed : (fault : AgentFault) → Lines honest host agent feed line (Err fault) host' agent' feed' → Failed host agent fault host' agent'
   line-failed fault did = record {
-    possible = λ going. of-refusal line_reason fault (did.refused going every past is_feed at);
     unchanged = did.unchanged;
     spends = λ going. did.fault ∙ ap (λ (f : Option Why). fault_after f (unsaid fault)) going;
     reopens = did.reopens;
@@ -241,7 +201,6 @@ module _ (honest : Type 0) (host : Seen) (agent : AgentState) (host' : Seen) (ag
 
     read-failed : (fault : AgentFault) → Reads honest host agent (unread fault) host' agent' → Failed host agent fault host' agent'
     read-failed fault did = record {
-      possible = λ going. of-refusal None fault (fails-free agent.fault fault did.faults did.reopens going);
       unchanged = did.unchanged;
       spends = λ going. did.fault ∙ ap (λ (f : Option Why). fault_after f (unread fault)) going;
       reopens = did.reopens;
@@ -279,7 +238,6 @@ untaken fault = Err fault
 module _ (honest : Type 0) (host : Seen) (agent : AgentState) (message : Data) (host' : Seen) (agent' : AgentState) (set : Settings) (h tried : List Beat) (true_host : honest) where
   take-failed : (fault : AgentFault) → TakesData honest host agent message (untaken fault) host' agent' → Failed host agent fault host' agent'
   take-failed fault did = record {
-    possible = λ going. of-refusal (refusal_by (agent_verdict agent message) agent.registry agent.role message) fault (did.refused going);
     unchanged = did.unchanged;
     spends = λ going. did.fault ∙ ap (λ (f : Option Why). fault_after f (untaken fault)) going;
     reopens = did.reopens;

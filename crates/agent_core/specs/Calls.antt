@@ -32,9 +32,13 @@ use Rattle.store_core.specs.Stands.{is_made}
 use Rattle.agent_core.specs.Gaps.{side_share}
 use Rattle.agent_core.specs.Notes.{IsDamaged}
 use Rattle.store_core.specs.Counts.{counted, raised}
+use Rattle.store_core.specs.declared.fault.CreateFault.{CreateFault}
+use Rattle.store_core.specs.declared.fault.CreateFault.TheVariants as creating
 use Rattle.store_core.specs.Store.{is_due}
 use Rattle.agent_core.specs.declared.fault.AgentFault.{AgentFault}
-use Rattle.agent_core.specs.declared.fault.AgentFault.TheVariants.{DiskFault, NotADatabase, Damaged, Exists, Memory}
+use Rattle.agent_core.specs.declared.fault.AgentFault.TheVariants.{DiskFault, Memory}
+use Rattle.agent_core.specs.declared.fault.OpenFault.{OpenFault}
+use Rattle.agent_core.specs.declared.fault.OpenFault.TheVariants as opening
 use Rattle.agent_core.specs.declared.left.Role.TheVariants.{Copies}
 use Rattle.agent_core.specs.declared.reply.Reply.{Reply}
 use Rattle.agent_core.specs.declared.reply.Said.{Said}
@@ -44,7 +48,7 @@ use Rattle.agent_core.specs.Bound.{GrowsWithin}
 use Rattle.agent_core.specs.Answers.{kept_of_history, reply_of}
 use Rattle.agent_core.specs.Copies.{data_of_history}
 use Rattle.agent_core.specs.Copying.{added_by, events_onto, refusal_by}
-use Rattle.agent_core.specs.Faults.{fault_after, HealthRefusedBy, IsCreating, IsOpening, IsReading, LeavesAll, RefusedBy, Reopens}
+use Rattle.agent_core.specs.Faults.{fault_after, HealthRefusedBy, IsOpening, IsReading, LeavesAll, RefusedBy, Reopens}
 use Rattle.agent_core.specs.Fed.{IsFed}
 use Rattle.agent_core.specs.Health.{health_refusal}
 use Rattle.agent_core.specs.Kept.{onto}
@@ -141,7 +145,7 @@ pub record ReadsAsBefore (old new : List Event) : Type 0 where
   pub disks : EveryDisk (IsDisk old) new
 
 -- `create` with this result left the host so
-pub record Creates (honest : Type 0) (host : Seen) (set : Settings) (result : Result AgentState AgentFault) (host' : Seen) : Type 0 where
+pub record Creates (honest : Type 0) (host : Seen) (set : Settings) (result : Result AgentState CreateFault) (host' : Seen) : Type 0 where
   -- at every moment a crash leaves what it might have left before the call, no database, or the one without beats
   pub any_moment : honest → Throughout (EveryDisk (λ disk. IsDisk host.past disk ⊎ StandsForNew set disk)) host.past host'.past
   -- at Ok the agent is of the history without beats
@@ -149,16 +153,15 @@ pub record Creates (honest : Type 0) (host : Seen) (set : Settings) (result : Re
   pub ready : IfOk result (AgentIsReady honest host'.past)
   pub new : IfOk result (IsNewAgent set)
   -- where there is a database it is refused, or the disk failed, or memory ran out, and nothing is written
-  pub exists : IsErrOf result Exists → honest → is_made (reads_as host.past) ≡ true
+  pub exists : IsErrOf result creating.Exists → honest → is_made (reads_as host.past) ≡ true
   pub none : OnOk result (honest → is_made (reads_as host.past) ≡ false)
-  pub made : honest → is_made (reads_as host.past) ≡ true → (IsErrOf result Exists ⊎ (IsErrOf result DiskFault ⊎ IsErrOf result Memory)) × ReadsAsBefore host.past host'.past
+  pub made : honest → is_made (reads_as host.past) ≡ true → (IsErrOf result creating.Exists ⊎ (IsErrOf result creating.DiskFault ⊎ IsErrOf result creating.Memory)) × ReadsAsBefore host.past host'.past
   pub made_moment : honest → is_made (reads_as host.past) ≡ true → Throughout (EveryDisk (IsDisk host.past)) host.past host'.past
   -- without memory nothing is written either
-  pub memory : IsErrOf result Memory → honest → ReadsAsBefore host.past host'.past
-  pub memory_moment : IsErrOf result Memory → honest → Throughout (EveryDisk (IsDisk host.past)) host.past host'.past
-  pub faults : IfErr result IsCreating
+  pub memory : IsErrOf result creating.Memory → honest → ReadsAsBefore host.past host'.past
+  pub memory_moment : IsErrOf result creating.Memory → honest → Throughout (EveryDisk (IsDisk host.past)) host.past host'.past
   -- the disk fails exactly where the host counted a failure
-  pub cause : HasCause host.disk_faults host'.disk_faults (IsErrOf result DiskFault)
+  pub cause : HasCause host.disk_faults host'.disk_faults (IsErrOf result creating.DiskFault)
   -- each file of the database stays within its share, where a side without gaps has at most so many bytes
   pub bound : (limit : ℕ) → side_limit 0 ≤ limit → honest → IsWithin (share set limit) host.past → Throughout (IsWithin (share set limit)) host.past host'.past
   -- nothing happens to a file that is not the store's own, and nothing is told
@@ -166,7 +169,7 @@ pub record Creates (honest : Type 0) (host : Seen) (set : Settings) (result : Re
   pub tells : host'.tell_faults ≡ host.tell_faults
 
 -- `open` with this result left the host so
-pub record Opens (honest : Type 0) (host : Seen) (result : Result AgentState AgentFault) (host' : Seen) : Type 0 where
+pub record Opens (honest : Type 0) (host : Seen) (result : Result AgentState OpenFault) (host' : Seen) : Type 0 where
   -- at Ok the agent is of the settings and of each history that the disk stands for
   pub opened : IfOk result (λ agent. honest → (set : Settings) (h : List Beat) → StandsForHistory set h (reads_as host.past) → IsAgentOf host'.past agent set h)
   pub ready : IfOk result (AgentIsReady honest host'.past)
@@ -179,23 +182,23 @@ pub record Opens (honest : Type 0) (host : Seen) (result : Result AgentState Age
   -- at Ok a crash leaves the history from then on
   pub images : OnOk result (honest → (set : Settings) (h : List Beat) → StandsForHistory set h (reads_as host.past) → EveryDisk (StandsForHistory set h) host'.past)
   -- a disk that stands for a history is opened, unless the disk fails or there is no memory
-  pub stands : honest → (set : Settings) (h : List Beat) → StandsForHistory set h (reads_as host.past) → IfErr result (λ fault. (fault ≡ DiskFault) ⊎ (fault ≡ Memory))
-  pub none : IsErrOf result NotADatabase → honest → is_made (reads_as host.past) ≡ false
+  pub stands : honest → (set : Settings) (h : List Beat) → StandsForHistory set h (reads_as host.past) → IfErr result (λ fault. (fault ≡ opening.DiskFault) ⊎ (fault ≡ opening.Memory))
+  pub none : IsErrOf result opening.NotADatabase → honest → is_made (reads_as host.past) ≡ false
   pub some : OnOk result (honest → is_made (reads_as host.past) ≡ true)
   -- the first part of the files that is not in its form: the checkpoint's file, its body, an extent, or the journal
-  pub damaged : (part : ℕ) → part ≤ 4 → IsErrOf result (Damaged part) → honest → IsDamaged (reads_as host.past)
-  pub parts : (part : ℕ) → part ≤ 4 → IsErrOf result (Damaged part) → honest → IsDamagedIn part (reads_as host.past)
+  pub damaged : (part : ℕ) → part ≤ 4 → IsErrOf result (opening.Damaged part) → honest → IsDamaged (reads_as host.past)
+  pub parts : (part : ℕ) → part ≤ 4 → IsErrOf result (opening.Damaged part) → honest → IsDamagedIn part (reads_as host.past)
   -- where a part of the files is damaged, its number is told, and nothing is opened
-  pub first : (part other : ℕ) → IsErrOf result (Damaged part) → honest → IsDamagedIn other (reads_as host.past) → other ≡ part
+  pub first : (part other : ℕ) → IsErrOf result (opening.Damaged part) → honest → IsDamagedIn other (reads_as host.past) → other ≡ part
   pub whole : OnOk result (honest → (part : ℕ) → IsDamagedIn part (reads_as host.past) → ⊥)
-  pub made : (part : ℕ) → IsErrOf result (Damaged part) → honest → is_made (reads_as host.past) ≡ true
+  pub made : (part : ℕ) → IsErrOf result (opening.Damaged part) → honest → is_made (reads_as host.past) ≡ true
   -- the disk has the form of a database, and what was opened goes on from beat to beat
   pub notes : OnOk result (honest → NotesGo true (reads_as host.past))
   -- where the side is not good, a note is no entry that goes on, or a point is of a series that is not there
-  pub damaged_notes : IsErrOf result (Damaged 5) → honest → NotesGo true (reads_as host.past) → ⊥
+  pub damaged_notes : IsErrOf result (opening.Damaged 5) → honest → NotesGo true (reads_as host.past) → ⊥
   pub faults : IfErr result IsOpening
   -- the disk fails exactly where the host counted a failure
-  pub cause : HasCause host.disk_faults host'.disk_faults (IsErrOf result DiskFault)
+  pub cause : HasCause host.disk_faults host'.disk_faults (IsErrOf result opening.DiskFault)
   -- each file stays within its share, whatever the shares are
   pub bound : (shares : File → ℕ) → honest → IsWithin shares host.past → Throughout (IsWithin shares) host.past host'.past
   -- nothing happens to a file that is not the store's own, and nothing is told

@@ -34,9 +34,8 @@ use Rattle.agent_core.specs.Roles.{may_collect, may_copy, role_of}
 
 -- ---- the entry of a note
 
--- the moment of an entry's beat: a gap counts with its end, and settings and a configuration have none
+-- the moment of an entry's beat: a gap counts with its end, and a configuration has none
 abbrev pub moment_of : Entry → Option ℕ
-moment_of (entry.Settings set) = None
 moment_of (entry.Collected found) = Some found.moment
 moment_of (entry.Copied found) = Some found.moment
 moment_of (entry.Health text) = None
@@ -70,7 +69,6 @@ noted_in left = record { registry = left.registry; role = left.role }
 -- defined goes on from what the registry has. Nothing refuses the text of a configuration. A gap's child and
 -- beginning are compared with nothing.
 abbrev pub entry_goes_on : Noted → Entry → Bool
-entry_goes_on left (entry.Settings set) = false
 entry_goes_on left (entry.Collected found) = may_collect left.role && goes_on left.registry found
 entry_goes_on left (entry.Copied found) = may_copy left.role && copied_goes_on left.registry found
 entry_goes_on left (entry.Health text) = is_none (health_refusal text)
@@ -78,7 +76,6 @@ entry_goes_on left (entry.Gap gap) = may_copy left.role
 
 -- what is left once it is taken
 abbrev pub with_entry : Noted → Entry → Noted
-with_entry left (entry.Settings set) = left
 with_entry left (entry.Collected found) = record { registry = with_numbered left.registry found; role = Collects }
 with_entry left (entry.Copied found) = record { registry = with_numbered left.registry (defined_by found); role = Copies found.child }
 with_entry left (entry.Health text) = left

@@ -48,7 +48,6 @@ HasRoom registry lasts lasts' =
 
 -- the last rows are those after an entry, which leaves this registry: configurations and gaps have nothing
 abbrev pub HasRows : Registry → List (Option Last) → List (Option Last) → Entry → Type 0
-HasRows registry lasts lasts' (entry.Settings set) = lasts' ≡ lasts
 HasRows registry lasts lasts' (entry.Collected found) = HasTakenRows registry lasts lasts' found
 HasRows registry lasts lasts' (entry.Copied found) = HasRoom registry lasts lasts'
 HasRows registry lasts lasts' (entry.Health text) = lasts' ≡ lasts
@@ -81,7 +80,6 @@ HasSeenNone latest latest' = latest' ≡ record latest { before = latest'.before
 
 -- what was last seen is that after an entry with these points
 abbrev pub HasSeen : Registry → Latest → Latest → Entry → List BeatPoint → Type 0
-HasSeen registry latest latest' (entry.Settings set) points = HasSeenNone latest latest'
 HasSeen registry latest latest' (entry.Collected found) points = HasSeenBeat registry latest latest' found points
 HasSeen registry latest latest' (entry.Copied found) points = HasSeenCopy registry latest latest' found.moment points
 HasSeen registry latest latest' (entry.Health text) points = HasSeenNone latest latest'

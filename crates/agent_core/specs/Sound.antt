@@ -5,7 +5,7 @@ use Rattle.history.specs.declared.line.Line.TheVariants.{Moment}
 use Rattle.history.specs.History.{Beat, collected}
 use Rattle.history.specs.Looking.{beat as open_beat}
 use Rattle.agent_core.specs.declared.fault.AgentFault.{AgentFault}
-use Rattle.agent_core.specs.declared.fault.AgentFault.TheVariants.{Refused, Health, DiskFault, NotADatabase, Damaged, Reopen, Exists, Memory}
+use Rattle.agent_core.specs.declared.fault.AgentFault.TheVariants.{Refused, Health, DiskFault, Reopen, Memory}
 use Rattle.agent_core.specs.Kept.{onto}
 use Rattle.agent_core.specs.Rules.{history_with}
 
@@ -30,10 +30,7 @@ abbrev pub tried_with : AgentFault → (beats tried : List Beat) → List Beat
 tried_with (Refused fault) beats tried = tried
 tried_with (Health fault) beats tried = tried
 tried_with DiskFault beats tried = beats
-tried_with NotADatabase beats tried = tried
-tried_with (Damaged part) beats tried = tried
 tried_with (Reopen cause) beats tried = tried
-tried_with Exists beats tried = tried
 tried_with Memory beats tried = beats
 
 -- the same after a call that may be done: then none is there that is not of the history

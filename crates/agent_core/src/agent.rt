@@ -37,7 +37,7 @@ mod copies;
 mod questions;
 
 use crate::alarming::{Stepping, follow};
-use crate::fault::AgentFault;
+use crate::fault::{AgentFault, OpenFault};
 use crate::keeping::{add, add_health, defines_some, make_room};
 use crate::left::Left;
 use crate::replaying::{open_store, replay_all};
@@ -52,7 +52,7 @@ use history::{BlockFault, Line, NumberedBeat, OpenBeat};
 use host_model::Host;
 use std::alloc::Global;
 use std::marker::Model;
-use store_core::{Store, Why};
+use store_core::{CreateFault, Store, Why};
 use tier_settings::Settings;
 
 /// The agent of one history, with the host that its database is on. Each call on it is handed that host,
@@ -113,7 +113,7 @@ impl Agent {
         alloc: Global,
         host: &mut H,
         settings: &Settings,
-    ) -> Result<Agent, AgentFault>
+    ) -> Result<Agent, CreateFault>
         requires { InLimits settings.now }
         ensures { Creates H.honest (H.seen host.old)
             settings.now result (H.seen host.new) }
@@ -150,7 +150,7 @@ impl Agent {
     /// disk stands for, and these are all that a crash leaves from then on. At every moment a crash
     /// leaves what it might have left before, and each file reads as before: the disk is only read
     /// and synced.
-    pub fn open<H: Host>(alloc: Global, host: &mut H) -> Result<Agent, AgentFault>
+    pub fn open<H: Host>(alloc: Global, host: &mut H) -> Result<Agent, OpenFault>
         ensures { Opens H.honest (H.seen host.old)
             result (H.seen host.new) }
     {
@@ -159,7 +159,7 @@ impl Agent {
     }
 
     /// The agent of a store that was just opened, once all its beats are replayed.
-    fn replayed<H: Host>(alloc: Global, mut store: Store, host: &mut H) -> Result<Agent, AgentFault>
+    fn replayed<H: Host>(alloc: Global, mut store: Store, host: &mut H) -> Result<Agent, OpenFault>
         requires going { store.fault ≡ None }
         ensures replayed { IfOk result (HasReplayed store) }
         ensures of { IfOk result (λ agent. (past : List Event) (set : ASettings)
@@ -168,10 +168,10 @@ impl Agent {
         ensures stands { IfErr result
             (λ fault. (past : List Event) (set : ASettings) (h : List HistoryBeat)
             → IsOpenedFor past store set h
-            → fault ≡ AgentFault.Memory) }
+            → fault ≡ OpenFault.Memory) }
         ensures left { IfOk result (HasLeft store.body.side store.waiting) }
         ensures notes { OnOk result (notes_go_on store.body.side store.waiting ≡ true) }
-        ensures broken { IfErr result (λ fault. fault ≡ AgentFault.Damaged 5
+        ensures broken { IfErr result (λ fault. fault ≡ OpenFault.Damaged 5
             → notes_go_on store.body.side store.waiting ≡ false) }
         ensures ready { IfOk result (λ agent. (past : List Event) → IsReady H.honest past store
             → IsReady H.honest past agent.store) }
@@ -428,6 +428,7 @@ impl Agent {
                 })
             }
             Err(fault) => {
+                let fault = AgentFault::from(fault);
                 self.fault = fault.cause();
                 Err(fault)
             }

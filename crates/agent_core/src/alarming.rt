@@ -17,7 +17,6 @@ ghost use Rattle.agent_core.specs.Alarms.{events_at, DefinesNothing, IsSteppingO
 ghost use Rattle.agent_core.specs.Answers.{tier_beats};
 ghost use Rattle.agent_core.specs.Left.{AwaitsAlarms, IsLeftBy};
 
-use crate::fault::AgentFault;
 use crate::left::Left;
 use alarm_core::{AlarmFault, Alarms, EventList, Latest};
 use chart_registry::Registry;
@@ -89,7 +88,7 @@ fn step<H: Host>(
     latest: &Latest,
     moment: u32,
     defines: bool,
-) -> Result<EventList, AgentFault>
+) -> Result<EventList, AlarmFault>
     requires going { store.old.fault ≡ None }
     requires same { defines ≡ false → IsUpTo alarms.old registry.now }
     ensures held { OnOk result ((set : ASettings) (beats : List TierBeat)
@@ -113,30 +112,11 @@ fn step<H: Host>(
     ensures up_to { OnOk result (IsUpTo alarms.new registry.now) }
     ensures store { store.new ≡ store.old }
     ensures host { H.seen host.new ≡ H.seen host.old }
-    ensures memory { IfErr result (λ fault. fault ≡ AgentFault.Memory) }
+    ensures memory { IfErr result (λ fault. fault ≡ AlarmFault.Memory) }
 {
     // No point of a store is read from the disk, which does not fail then.
     let mut view = StoreView { store, host };
-    Ok(step_on(alarms, &mut view, registry, latest, moment, defines)?)
-}
-
-/// Gives alarms another configuration at a moment. After an `Err` nothing is known of the alarms.
-fn configure(
-    alarms: &mut Alarms,
-    config: Config,
-    registry: &Registry,
-    moment: u32,
-) -> Result<EventList, AgentFault>
-    ensures held { OnOk result (held alarms.new
-        ≡ (configured (held alarms.old) (text_of config)
-        (map alarm_of (entities_of config)) registry.now moment).held) }
-    ensures events { IfOk result (λ events. events
-        ≡ (configured (held alarms.old) (text_of config)
-        (map alarm_of (entities_of config)) registry.now moment).events) }
-    ensures up_to { OnOk result (IsUpTo alarms.new registry.now) }
-    ensures memory { IfErr result (λ fault. fault ≡ AgentFault.Memory) }
-{
-    Ok(alarms.configure(config, registry, moment)?)
+    step_on(alarms, &mut view, registry, latest, moment, defines)
 }
 
 /// Has the alarms follow a beat that is stored, which all else has taken, and gives the events that it tells. After
@@ -147,7 +127,7 @@ pub(crate) fn follow<H: Host>(
     store: &mut Store,
     host: &mut H,
     stepping: Stepping,
-) -> Result<EventList, AgentFault>
+) -> Result<EventList, AlarmFault>
     requires going { store.old.fault ≡ None }
     requires same { DefinesNothing stepping → IsUpTo left.old.alarms left.old.registry }
     ensures left_by { OnOk result ((set : ASettings) (h : List HistoryBeat) (beat : HistoryBeat)
@@ -163,7 +143,7 @@ pub(crate) fn follow<H: Host>(
     ensures only { left.new ≡ record left.old { alarms = left.new.alarms } }
     ensures store { store.new ≡ store.old }
     ensures host { H.seen host.new ≡ H.seen host.old }
-    ensures memory { IfErr result (λ fault. fault ≡ AgentFault.Memory) }
+    ensures memory { IfErr result (λ fault. fault ≡ AlarmFault.Memory) }
 {
     match stepping {
         Stepping::Beat(moment, defines) => step(
@@ -177,7 +157,7 @@ pub(crate) fn follow<H: Host>(
         ),
         Stepping::Configuration(config) => {
             let before = left.latest.before;
-            configure(&mut left.alarms, config, &left.registry, before)
+            left.alarms.configure(config, &left.registry, before)
         }
         Stepping::Nothing => Ok(EventList::new(alloc)),
     }

@@ -1,6 +1,6 @@
 //! What the message of a child defines, and what a store keeps of its beats.
 
-ghost use Rattle.std.specs.Prelude.{◌≡◌, [], ◌++◌, ◌<◌, ◌≤◌, true, length, map, filter_map, All, Some, IfOk, IfErr, OnOk};
+ghost use Rattle.std.specs.Prelude.{◌≡◌, [], ◌++◌, ◌<◌, ◌≤◌, true, length, map, filter_map, All, Some, IfOk, OnOk};
 ghost use Rattle.std.specs.List.{cons_option, AllByRecursion};
 ghost use Rattle.std.specs.List.Sorted.{IsNonDecreasingBy, IsPermutation};
 ghost use Rattle.history.specs.Limits.{chart_keeps_limits, dimension_keeps_limits};
@@ -24,7 +24,6 @@ ghost use Rattle.agent_core.specs.Notes.{names_series};
 ghost use Rattle.agent_core.specs.Rules.{HasLimits};
 ghost use Rattle.agent_core.specs.Storing.{defining, entry_word, named_series, sent_entry, sent_kept, series_named, series_word};
 
-use crate::fault::AgentFault;
 use crate::points::stored_points;
 use beat_entries::{usual_chart, usual_dimension};
 use beat_points::SeriesWord;
@@ -368,7 +367,7 @@ pub(crate) fn kept_copy(
     charts: &[NumberedChart],
     dimensions: &[NumberedDimension],
     beat: &SentBeat,
-) -> Result<Beat, AgentFault>
+) -> Result<Beat, AllocError>
     requires own { AreApart same_dimension registry.now.dimensions }
     requires registry { HasLimits registry.now }
     requires names { AreNamesApart message.now.names }
@@ -386,7 +385,6 @@ pub(crate) fn kept_copy(
     ensures named { IfOk result (λ kept. names_series registry.now kept.points ≡ true) }
     ensures form { IfOk result InForm }
     ensures size { IfOk result FitsARecord }
-    ensures memory { IfErr result (λ fault. fault ≡ AgentFault.Memory) }
 {
     let words = numbered_words(alloc, series, beat)?;
     let points = stored_points(alloc, registry, words.as_slice())?;
@@ -407,7 +405,7 @@ pub(crate) fn kept_copy(
 }
 
 /// What a store keeps of a gap of a child: the moments above `from`, up to `to`.
-pub(crate) fn kept_gap(alloc: Global, child: u64, from: u32, to: u32) -> Result<Beat, AgentFault>
+pub(crate) fn kept_gap(alloc: Global, child: u64, from: u32, to: u32) -> Result<Beat, AllocError>
     requires { 0 < to }
     ensures kept { IfOk result (λ kept. kept ≡ record {
       moment = Some to;
@@ -418,7 +416,6 @@ pub(crate) fn kept_gap(alloc: Global, child: u64, from: u32, to: u32) -> Result<
         (HasSpelling (gap_entry (record { child = child; from = from; to = to }))) }
     ensures form { IfOk result InForm }
     ensures size { IfOk result FitsARecord }
-    ensures memory { IfErr result (λ fault. fault ≡ AgentFault.Memory) }
 {
     let note = write_entry(alloc, &Entry::Gap(Gap { child, from, to }))?;
     Ok(Beat {

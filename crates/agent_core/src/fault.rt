@@ -1,8 +1,9 @@
 ghost use Rattle.std.specs.Prelude.{◌≡◌};
-ghost use Rattle.agent_core.specs.Faults.{fault_of, of_alarms, of_beat, of_block, of_config, of_entry, of_points, of_side, unread};
-ghost use Rattle.agent_core.specs.declared.fault.AgentFault.TheVariants.{Memory};
+ghost use Rattle.agent_core.specs.Faults.{fault_of, of_alarms, of_beat, of_block, of_config, of_entry, of_followed, of_opening, of_points, of_restored, of_side, unread};
+ghost use Rattle.agent_core.specs.declared.fault.AgentFault.TheVariants as agent;
+ghost use Rattle.agent_core.specs.declared.fault.OpenFault.TheVariants as opening;
 
-use alarm_core::AlarmFault;
+use alarm_core::{AlarmFault, RestoreFault};
 use beat_entries::{BeatFault, EntryRefusal};
 use entry_codec::EntryFault;
 use health_config::ConfigFault;
@@ -11,9 +12,12 @@ use query_engine::PointFault;
 use query_text::QueryFault;
 use replication::CopyFault;
 use side_codec::SideFault;
-use std::alloc::{AllocError, AllocFailed};
+use std::alloc::AllocError;
 use store_core::{StoreFault, Why};
 use thiserror::Error;
+
+/// The number of the part that the side, the notes and the points are. The files of the store are the parts before it.
+pub const NOTE_PART: u32 = 5;
 
 /// Why a call on an agent did not do what it was asked to do.
 #[derive(Clone, Copy, Debug, PartialEq, Eq, Error)]
@@ -27,18 +31,26 @@ pub enum AgentFault {
     /// A call on the disk failed.
     #[error("the disk failed")]
     DiskFault,
+    /// An earlier call failed so, and the database must be opened again.
+    #[error("the database must be opened again: {0}")]
+    Reopen(Why),
+    /// There was no memory.
+    #[error("out of memory")]
+    Memory,
+}
+
+/// Why an agent was not opened.
+#[derive(Clone, Copy, Debug, PartialEq, Eq, Error)]
+pub enum OpenFault {
+    /// A call on the disk failed.
+    #[error("the disk failed")]
+    DiskFault,
     /// There is no database on the disk.
     #[error("there is no database")]
     NotADatabase,
     /// What is on the disk is no database: the part of its form with this number does not hold.
     #[error("the database is damaged in part {0}")]
     Damaged(u32),
-    /// An earlier call failed so, and the database must be opened again.
-    #[error("the database must be opened again: {0}")]
-    Reopen(Why),
-    /// There is a database on the disk already.
-    #[error("there is a database already")]
-    Exists,
     /// There was no memory.
     #[error("out of memory")]
     Memory,
@@ -55,42 +67,23 @@ impl AgentFault {
         match self {
             AgentFault::DiskFault => Some(Why::Disk),
             AgentFault::Memory => Some(Why::Memory),
-            AgentFault::Refused(_)
-            | AgentFault::Health(_)
-            | AgentFault::NotADatabase
-            | AgentFault::Damaged(_)
-            | AgentFault::Reopen(_)
-            | AgentFault::Exists => None,
+            AgentFault::Refused(_) | AgentFault::Health(_) | AgentFault::Reopen(_) => None,
         }
     }
 }
 
+// ---- why a call on an agent failed
+
 impl From<AllocError> for AgentFault {
-    ghost from_gives = { λ _ fault. fault ≡ Memory };
+    ghost from_gives = { λ _ fault. fault ≡ agent.Memory };
 
     fn from(_error: AllocError) -> AgentFault {
         AgentFault::Memory
     }
 }
 
-impl<T: Drop> From<AllocFailed<T>> for AgentFault {
-    ghost from_gives = { λ _ fault. fault ≡ Memory };
-
-    fn from(_error: AllocFailed<T>) -> AgentFault {
-        AgentFault::Memory
-    }
-}
-
-impl From<beat_points::PointFault> for AgentFault {
-    ghost from_gives = { λ _ fault. fault ≡ Memory };
-
-    fn from(_error: beat_points::PointFault) -> AgentFault {
-        AgentFault::Memory
-    }
-}
-
 impl From<CopyFault> for AgentFault {
-    ghost from_gives = { λ _ fault. fault ≡ Memory };
+    ghost from_gives = { λ _ fault. fault ≡ agent.Memory };
 
     fn from(_error: CopyFault) -> AgentFault {
         AgentFault::Memory
@@ -132,51 +125,20 @@ impl From<ConfigFault> for AgentFault {
 
 /// A query that is refused is answered by a line, so that only memory can be short.
 impl From<QueryFault> for AgentFault {
-    ghost from_gives = { λ _ fault. fault ≡ Memory };
+    ghost from_gives = { λ _ fault. fault ≡ agent.Memory };
 
     fn from(_error: QueryFault) -> AgentFault {
         AgentFault::Memory
     }
 }
 
-/// What is stored and does not go on is damaged.
-impl From<EntryRefusal> for AgentFault {
-    ghost from_gives = { λ refusal fault. fault ≡ unread refusal };
-
-    fn from(refusal: EntryRefusal) -> AgentFault {
-        match refusal {
-            EntryRefusal::NotNext => AgentFault::Damaged(5),
-            EntryRefusal::Memory => AgentFault::Memory,
-        }
-    }
-}
-
-/// What is stored and is no entry is damaged.
-impl From<EntryFault> for AgentFault {
-    ghost from_gives = { λ fault given. given ≡ of_entry fault };
-
-    fn from(fault: EntryFault) -> AgentFault {
-        match fault {
-            EntryFault::Short
-            | EntryFault::Range
-            | EntryFault::NotText
-            | EntryFault::UnknownKind
-            | EntryFault::NotCanonical => AgentFault::Damaged(5),
-            EntryFault::Memory => AgentFault::Memory,
-        }
-    }
-}
-
-/// What is stored and is no alarms is damaged. Alarms that are too long for bytes are as those for which there is no
-/// memory: no side has them.
 impl From<AlarmFault> for AgentFault {
     ghost from_gives = { λ fault given. given ≡ of_alarms fault };
 
     fn from(fault: AlarmFault) -> AgentFault {
         match fault {
             AlarmFault::Disk => AgentFault::DiskFault,
-            AlarmFault::BadBytes => AgentFault::Damaged(5),
-            AlarmFault::TooLong | AlarmFault::Memory => AgentFault::Memory,
+            AlarmFault::Memory => AgentFault::Memory,
         }
     }
 }
@@ -192,30 +154,101 @@ impl From<PointFault> for AgentFault {
     }
 }
 
-/// What is stored and is no side is damaged.
-impl From<SideFault> for AgentFault {
-    ghost from_gives = { λ fault given. given ≡ of_side fault };
-
-    fn from(fault: SideFault) -> AgentFault {
-        match fault {
-            SideFault::BadBytes => AgentFault::Damaged(5),
-            SideFault::Memory => AgentFault::Memory,
-        }
-    }
-}
-
 impl From<StoreFault> for AgentFault {
     ghost from_gives = { λ fault given. given ≡ fault_of fault };
 
     fn from(fault: StoreFault) -> AgentFault {
         match fault {
             StoreFault::DiskFault => AgentFault::DiskFault,
-            StoreFault::NotADatabase => AgentFault::NotADatabase,
-            StoreFault::Damaged(part) => AgentFault::Damaged(part),
             StoreFault::MomentOrder(last) => AgentFault::Refused(BlockFault::MomentOrder(last)),
             StoreFault::Reopen(cause) => AgentFault::Reopen(cause),
-            StoreFault::Exists => AgentFault::Exists,
             StoreFault::Memory => AgentFault::Memory,
+        }
+    }
+}
+
+// ---- why an agent was not opened
+
+impl From<AllocError> for OpenFault {
+    ghost from_gives = { λ _ fault. fault ≡ opening.Memory };
+
+    fn from(_error: AllocError) -> OpenFault {
+        OpenFault::Memory
+    }
+}
+
+impl From<store_core::OpenFault> for OpenFault {
+    ghost from_gives = { λ fault given. given ≡ of_opening fault };
+
+    fn from(fault: store_core::OpenFault) -> OpenFault {
+        match fault {
+            store_core::OpenFault::DiskFault => OpenFault::DiskFault,
+            store_core::OpenFault::NotADatabase => OpenFault::NotADatabase,
+            store_core::OpenFault::Damaged(part) => OpenFault::Damaged(part),
+            store_core::OpenFault::Memory => OpenFault::Memory,
+        }
+    }
+}
+
+/// What is stored and does not go on is damaged.
+impl From<EntryRefusal> for OpenFault {
+    ghost from_gives = { λ refusal fault. fault ≡ unread refusal };
+
+    fn from(refusal: EntryRefusal) -> OpenFault {
+        match refusal {
+            EntryRefusal::NotNext => OpenFault::Damaged(NOTE_PART),
+            EntryRefusal::Memory => OpenFault::Memory,
+        }
+    }
+}
+
+/// What is stored and is no entry is damaged.
+impl From<EntryFault> for OpenFault {
+    ghost from_gives = { λ fault given. given ≡ of_entry fault };
+
+    fn from(fault: EntryFault) -> OpenFault {
+        match fault {
+            EntryFault::Short
+            | EntryFault::Range
+            | EntryFault::NotText
+            | EntryFault::UnknownKind
+            | EntryFault::NotCanonical => OpenFault::Damaged(NOTE_PART),
+            EntryFault::Memory => OpenFault::Memory,
+        }
+    }
+}
+
+/// What is stored and is no side is damaged.
+impl From<SideFault> for OpenFault {
+    ghost from_gives = { λ fault given. given ≡ of_side fault };
+
+    fn from(fault: SideFault) -> OpenFault {
+        match fault {
+            SideFault::BadBytes => OpenFault::Damaged(NOTE_PART),
+            SideFault::Memory => OpenFault::Memory,
+        }
+    }
+}
+
+/// What is stored and is no alarms is damaged.
+impl From<RestoreFault> for OpenFault {
+    ghost from_gives = { λ fault given. given ≡ of_restored fault };
+
+    fn from(fault: RestoreFault) -> OpenFault {
+        match fault {
+            RestoreFault::BadKept => OpenFault::Damaged(NOTE_PART),
+            RestoreFault::Memory => OpenFault::Memory,
+        }
+    }
+}
+
+impl From<AlarmFault> for OpenFault {
+    ghost from_gives = { λ fault given. given ≡ of_followed fault };
+
+    fn from(fault: AlarmFault) -> OpenFault {
+        match fault {
+            AlarmFault::Disk => OpenFault::DiskFault,
+            AlarmFault::Memory => OpenFault::Memory,
         }
     }
 }

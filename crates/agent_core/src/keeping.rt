@@ -1,6 +1,6 @@
 //! What a store keeps of a beat, and how it is added to a history.
 
-ghost use Rattle.std.specs.Prelude.{◌≡◌, ◌↔◌, ◌<◌, ◌≤◌, [], ◌∷◌, ◌⊎◌, ℕ, List, Some, None, true, false, length, IfOk, IfErr, IfSome, OnOk};
+ghost use Rattle.std.specs.Prelude.{◌≡◌, ◌↔◌, ◌<◌, ◌≤◌, [], ◌∷◌, ◌⊎◌, ℕ, List, Some, None, true, false, length, IfOk, IfSome, OnOk};
 ghost use Rattle.health_config.specs.declared.config.TheConstants.{TEXT_LIMIT};
 ghost use Rattle.host_model.specs.Disks.{EveryDisk};
 ghost use Rattle.host_model.specs.Moments.{Throughout};
@@ -39,7 +39,7 @@ use chart_registry::Registry;
 use entry_codec::{Entry, write_collected, write_entry};
 use history::{NumberedBeat, OpenBeat};
 use host_model::Host;
-use std::alloc::Global;
+use std::alloc::{AllocError, Global};
 use store_core::{Beat, BeatPoint, BeatPointList, ByteList, Store};
 
 /// What a store keeps of a numbered beat, whose definitions the registry has.
@@ -48,7 +48,7 @@ fn stored_beat(
     registry: &Registry,
     last_rows: &LastRows,
     numbered: &NumberedBeat,
-) -> Result<Beat, AgentFault>
+) -> Result<Beat, AllocError>
     requires there { IsThere registry.now numbered.now }
     requires canonical { is_collected_canonical numbered.now ≡ true }
     requires limits { IsWithinLimits numbered.now }
@@ -67,9 +67,10 @@ fn stored_beat(
     ensures named { IfOk result (λ kept. names_series registry.now kept.points ≡ true) }
     ensures form { IfOk result InForm }
     ensures size { IfOk result FitsARecord }
-    ensures memory { IfErr result (λ fault. fault ≡ AgentFault.Memory) }
 {
-    let words = last_rows.points(alloc, registry, numbered)?;
+    let Ok(words) = last_rows.points(alloc, registry, numbered) else {
+        return Err(AllocError);
+    };
     let points = stored_points(alloc, registry, words.as_slice())?;
     let note = write_collected(alloc, numbered)?;
     Ok(Beat {
@@ -153,7 +154,7 @@ pub(crate) fn commit<H: Host>(
 }
 
 /// What a store keeps of a configuration, whose text is no longer than a health text may be.
-fn health_beat(alloc: Global, text: &[u8]) -> Result<Beat, AgentFault>
+fn health_beat(alloc: Global, text: &[u8]) -> Result<Beat, AllocError>
     requires { length text.now ≤ TEXT_LIMIT }
     ensures kept { IfOk result (λ kept. kept ≡ record {
       moment = None;
@@ -163,7 +164,6 @@ fn health_beat(alloc: Global, text: &[u8]) -> Result<Beat, AgentFault>
     ensures spelt { OnOk result (HasSpelling (entry.Health text.now)) }
     ensures form { IfOk result InForm }
     ensures size { IfOk result FitsARecord }
-    ensures memory { IfErr result (λ fault. fault ≡ AgentFault.Memory) }
 {
     let entry = Entry::Health(ByteList::from_slice(alloc, text)?);
     let note = write_entry(alloc, &entry)?;
@@ -216,13 +216,14 @@ pub(crate) fn take_rows(
     last_rows: &mut LastRows,
     registry: &Registry,
     beat: &NumberedBeat,
-) -> Result<(), AgentFault>
+) -> Result<(), AllocError>
     requires { IsThere registry.now beat.now }
-    ensures taken { OnOk result (HasTakenRows registry.now last_rows.old last_rows.new beat.now) }
-    ensures memory { IfErr result (λ fault. fault ≡ AgentFault.Memory) }
+    ensures { OnOk result (HasTakenRows registry.now last_rows.old last_rows.new beat.now) }
 {
-    last_rows.apply(registry, beat)?;
-    Ok(())
+    match last_rows.apply(registry, beat) {
+        Ok(()) => Ok(()),
+        Err(_) => Err(AllocError),
+    }
 }
 
 /// Takes a numbered beat and its points as what was last seen. `before` is the last moment before it.
@@ -232,18 +233,16 @@ pub(crate) fn see_beat(
     numbered: &NumberedBeat,
     points: &[BeatPoint],
     before: u32,
-) -> Result<(), AgentFault>
+) -> Result<(), AllocError>
     requires there { IsThere left.old.registry numbered.now }
     requires named { names_series left.old.registry points.now ≡ true }
     ensures seen { OnOk result (HasSeenBeat left.old.registry left.old.latest left.new.latest
         numbered.now points.now) }
     ensures before { OnOk result (left.new.latest.before ≡ before) }
     ensures only { left.new ≡ record left.old { latest = left.new.latest } }
-    ensures memory { IfErr result (λ fault. fault ≡ AgentFault.Memory) }
 {
     let (latest, registry) = (&mut left.latest, &left.registry);
-    see_collected(alloc, latest, registry, numbered, points, before)?;
-    Ok(())
+    see_collected(alloc, latest, registry, numbered, points, before)
 }
 
 /// Takes the points of a copied beat at this moment as what was last seen. `before` is the last moment before it.
@@ -253,17 +252,15 @@ pub(crate) fn see_copy(
     moment: u32,
     points: &[BeatPoint],
     before: u32,
-) -> Result<(), AgentFault>
+) -> Result<(), AllocError>
     requires { names_series left.old.registry points.now ≡ true }
     ensures seen { OnOk result (HasSeenCopy left.old.registry left.old.latest left.new.latest
         moment points.now) }
     ensures before { OnOk result (left.new.latest.before ≡ before) }
     ensures only { left.new ≡ record left.old { latest = left.new.latest } }
-    ensures memory { IfErr result (λ fault. fault ≡ AgentFault.Memory) }
 {
     let (latest, registry) = (&mut left.latest, &left.registry);
-    see_copied(alloc, latest, registry, moment, points, before)?;
-    Ok(())
+    see_copied(alloc, latest, registry, moment, points, before)
 }
 
 /// Whether a beat defines charts or dimensions.

@@ -2,13 +2,12 @@
 
 ghost use Rattle.std.specs.Prelude.{◌≡◌};
 
-use crate::fault::AgentFault;
 use crate::gaps::Gaps;
 use crate::last_seen::nothing_seen;
 use alarm_core::{Alarms, Latest};
 use beat_points::LastRows;
 use chart_registry::Registry;
-use std::alloc::Global;
+use std::alloc::{AllocError, Global};
 
 /// What a history does: it collects, or it copies. A configuration decides nothing.
 #[derive(Clone, Copy, Debug, PartialEq, Eq)]
@@ -81,17 +80,18 @@ pub struct Left {
 }
 
 impl Left {
-    ghost use Rattle.std.specs.Prelude.{[], IfOk, IfErr};
+    ghost use Rattle.std.specs.Prelude.{[], IfOk};
     ghost use Rattle.tier_settings.specs.declared.settings.Settings.{Settings as ASettings};
     ghost use Rattle.agent_core.specs.Left.{IsFit, IsLeftBy};
 
     /// What a history without beats leaves. Only memory can be short.
-    pub(crate) fn new(alloc: Global) -> Result<Left, AgentFault>
+    pub(crate) fn new(alloc: Global) -> Result<Left, AllocError>
         ensures left { IfOk result (λ left. (set : ASettings) → IsLeftBy set [] left) }
         ensures fit { IfOk result IsFit }
-        ensures memory { IfErr result (λ fault. fault ≡ AgentFault.Memory) }
     {
-        let alarms = Alarms::new(alloc)?;
+        let Ok(alarms) = Alarms::new(alloc) else {
+            return Err(AllocError);
+        };
         let registry = Registry::new(alloc);
         let last_rows = LastRows::new(alloc);
         let latest = nothing_seen(alloc);

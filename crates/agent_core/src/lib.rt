@@ -37,7 +37,7 @@ mod used;
 
 pub use agent::Agent;
 pub use alarm_core::{Event, EventList, Latest, Log, Status, write_event};
-pub use fault::AgentFault;
+pub use fault::{AgentFault, NOTE_PART, OpenFault};
 pub use health_config::ConfigFault;
 pub use law::{
     accepted_text_keeps_the_rules, calls_keep_an_agent_sound, calls_stay_within_shares,
@@ -45,5 +45,5 @@ pub use law::{
 };
 pub use replication::{Ask, Data, Verdict};
 pub use reply::{Reply, Said, write_reply};
-pub use store_core::{Kept, KeptBeat, KeptBeatList, KeptPoint, KeptPointList, Why};
+pub use store_core::{CreateFault, Kept, KeptBeat, KeptBeatList, KeptPoint, KeptPointList, Why};
 pub use tier_settings::{Settings, is_in_limits};

@@ -20,7 +20,7 @@ ghost use Rattle.agent_core.specs.Replay.{gaps_after, HasRows, HasSeen, IsDoneBy
 ghost use Rattle.agent_core.specs.Rules.{HasLimits};
 
 use crate::alarming::Stepping;
-use crate::fault::AgentFault;
+use crate::fault::{NOTE_PART, OpenFault};
 use crate::keeping::{see_beat, see_copy, take_rows};
 use crate::left::{Left, Role};
 use beat_entries::{define, define_copied};
@@ -29,15 +29,15 @@ use entry_codec::{Copied, Entry, Gap, read_entry};
 use health_config::{Config, ConfigFault};
 use history::NumberedBeat;
 use side_codec::GapSpan;
-use std::alloc::Global;
+use std::alloc::{AllocError, Global};
 use store_core::{Beat, BeatPoint};
 
-/// The moment of an entry's beat: a gap counts with its end, and settings and a configuration have none.
+/// The moment of an entry's beat: a gap counts with its end, and a configuration has none.
 fn moment_of(entry: &Entry) -> Option<u32>
     ensures { result ≡ moment_of entry.now }
 {
     match entry {
-        Entry::Settings(_) | Entry::Health(_) => None,
+        Entry::Health(_) => None,
         Entry::Collected(found) => Some(found.moment),
         Entry::Copied(found) => Some(found.moment),
         Entry::Gap(gap) => Some(gap.to),
@@ -45,25 +45,25 @@ fn moment_of(entry: &Entry) -> Option<u32>
 }
 
 /// The entry of a kept beat, with the beat's moment, or the database is damaged.
-fn entry_in(alloc: Global, kept: &Beat) -> Result<Entry, AgentFault>
+fn entry_in(alloc: Global, kept: &Beat) -> Result<Entry, OpenFault>
     ensures found { IfOk result (λ entry. entry_in kept.now ≡ Some entry) }
 
     // It is damaged only where there is no such entry.
     ensures refused { IfErr result
-        (λ fault. fault ≡ AgentFault.Damaged 5 → entry_in kept.now ≡ None) }
+        (λ fault. fault ≡ OpenFault.Damaged 5 → entry_in kept.now ≡ None) }
     ensures faults { IfErr result
-        (λ fault. (fault ≡ AgentFault.Memory) ⊎ (fault ≡ AgentFault.Damaged 5)) }
+        (λ fault. (fault ≡ OpenFault.Memory) ⊎ (fault ≡ OpenFault.Damaged 5)) }
 {
     let entry = read_entry(alloc, kept.note.as_slice())?;
     if moment_of(&entry) == kept.moment {
         Ok(entry)
     } else {
-        Err(AgentFault::Damaged(5))
+        Err(OpenFault::Damaged(NOTE_PART))
     }
 }
 
 /// Takes a collected beat: its definitions, and its rows as the last ones.
-fn take_collected(left: &mut Left, entry: &NumberedBeat) -> Result<(), AgentFault>
+fn take_collected(left: &mut Left, entry: &NumberedBeat) -> Result<(), OpenFault>
     ensures there { OnOk result (IsThere left.new.registry entry.now) }
     ensures left { OnOk result
         (noted_in left.new ≡ with_entry (noted_in left.old) (Entry.Collected entry.now)) }
@@ -72,16 +72,16 @@ fn take_collected(left: &mut Left, entry: &NumberedBeat) -> Result<(), AgentFaul
     ensures next { OnOk result
         (entry_goes_on (noted_in left.old) (Entry.Collected entry.now) ≡ true) }
     ensures broken { IfErr result
-        (λ fault. fault ≡ AgentFault.Damaged 5
+        (λ fault. fault ≡ OpenFault.Damaged 5
         → entry_goes_on (noted_in left.old) (Entry.Collected entry.now) ≡ false) }
     ensures faults { IfErr result
-        (λ fault. (fault ≡ AgentFault.Memory) ⊎ (fault ≡ AgentFault.Damaged 5)) }
+        (λ fault. (fault ≡ OpenFault.Memory) ⊎ (fault ≡ OpenFault.Damaged 5)) }
     ensures latest { left.new.latest ≡ left.old.latest }
     ensures gaps { left.new.gaps ≡ left.old.gaps }
     ensures alarms { left.new.alarms ≡ left.old.alarms }
 {
     if !left.role.may_collect() {
-        return Err(AgentFault::Damaged(5));
+        return Err(OpenFault::Damaged(NOTE_PART));
     }
     define(&mut left.registry, entry)?;
     take_rows(&mut left.last_rows, &left.registry, entry)?;
@@ -90,7 +90,7 @@ fn take_collected(left: &mut Left, entry: &NumberedBeat) -> Result<(), AgentFaul
 }
 
 /// Takes a copied beat: its definitions. It has no rows, so the last rows only make room for its series.
-fn take_copied(alloc: Global, left: &mut Left, entry: &Copied) -> Result<(), AgentFault>
+fn take_copied(alloc: Global, left: &mut Left, entry: &Copied) -> Result<(), OpenFault>
     ensures left { OnOk result
         (noted_in left.new ≡ with_entry (noted_in left.old) (Entry.Copied entry.now)) }
     ensures rows { OnOk result (HasRows left.new.registry left.old.last_rows left.new.last_rows
@@ -98,16 +98,16 @@ fn take_copied(alloc: Global, left: &mut Left, entry: &Copied) -> Result<(), Age
     ensures next { OnOk result
         (entry_goes_on (noted_in left.old) (Entry.Copied entry.now) ≡ true) }
     ensures broken { IfErr result
-        (λ fault. fault ≡ AgentFault.Damaged 5
+        (λ fault. fault ≡ OpenFault.Damaged 5
         → entry_goes_on (noted_in left.old) (Entry.Copied entry.now) ≡ false) }
     ensures faults { IfErr result
-        (λ fault. (fault ≡ AgentFault.Memory) ⊎ (fault ≡ AgentFault.Damaged 5)) }
+        (λ fault. (fault ≡ OpenFault.Memory) ⊎ (fault ≡ OpenFault.Damaged 5)) }
     ensures latest { left.new.latest ≡ left.old.latest }
     ensures gaps { left.new.gaps ≡ left.old.gaps }
     ensures alarms { left.new.alarms ≡ left.old.alarms }
 {
     if !left.role.may_copy() {
-        return Err(AgentFault::Damaged(5));
+        return Err(OpenFault::Damaged(NOTE_PART));
     }
     define_copied(alloc, &mut left.registry, entry)?;
     left.last_rows.make_room(&left.registry)?;
@@ -116,20 +116,20 @@ fn take_copied(alloc: Global, left: &mut Left, entry: &Copied) -> Result<(), Age
 }
 
 /// Takes a gap, where nothing was collected.
-fn take_gap(left: &mut Left, gap: &Gap) -> Result<(), AgentFault>
+fn take_gap(left: &mut Left, gap: &Gap) -> Result<(), OpenFault>
     ensures left { OnOk result (left.new ≡ record left.old {
       role = Role.Copies gap.now.child;
       gaps = join_gap left.old.gaps (record { from = gap.now.from; to = gap.now.to });
     }) }
     ensures next { OnOk result (may_copy left.old.role ≡ true) }
     ensures broken { IfErr result
-        (λ fault. fault ≡ AgentFault.Damaged 5 → may_copy left.old.role ≡ false) }
+        (λ fault. fault ≡ OpenFault.Damaged 5 → may_copy left.old.role ≡ false) }
     ensures faults { IfErr result
-        (λ fault. (fault ≡ AgentFault.Memory) ⊎ (fault ≡ AgentFault.Damaged 5)) }
+        (λ fault. (fault ≡ OpenFault.Memory) ⊎ (fault ≡ OpenFault.Damaged 5)) }
     ensures refused { OnErr result (left.new ≡ record left.old { gaps = left.new.gaps }) }
 {
     if !left.role.may_copy() {
-        return Err(AgentFault::Damaged(5));
+        return Err(OpenFault::Damaged(NOTE_PART));
     }
     let (from, to) = (gap.from, gap.to);
     left.gaps.join(GapSpan { from, to })?;
@@ -138,18 +138,18 @@ fn take_gap(left: &mut Left, gap: &Gap) -> Result<(), AgentFault>
 }
 
 /// The configuration of a health text, or the database is damaged.
-fn read_health(alloc: Global, text: &[u8]) -> Result<Config, AgentFault>
+fn read_health(alloc: Global, text: &[u8]) -> Result<Config, OpenFault>
     ensures read { IfOk result (IsReadOf text.now) }
     ensures next { OnOk result (is_none (health_refusal text.now) ≡ true) }
     ensures broken { IfErr result
-        (λ fault. fault ≡ AgentFault.Damaged 5 → is_none (health_refusal text.now) ≡ false) }
+        (λ fault. fault ≡ OpenFault.Damaged 5 → is_none (health_refusal text.now) ≡ false) }
     ensures faults { IfErr result
-        (λ fault. (fault ≡ AgentFault.Memory) ⊎ (fault ≡ AgentFault.Damaged 5)) }
+        (λ fault. (fault ≡ OpenFault.Memory) ⊎ (fault ≡ OpenFault.Damaged 5)) }
 {
     match Config::read(alloc, text) {
         Ok(config) => Ok(config),
-        Err(ConfigFault::Memory) => Err(AgentFault::Memory),
-        Err(_) => Err(AgentFault::Damaged(5)),
+        Err(ConfigFault::Memory) => Err(OpenFault::Memory),
+        Err(_) => Err(OpenFault::Damaged(NOTE_PART)),
     }
 }
 
@@ -167,8 +167,8 @@ fn copy_defines(entry: &Copied) -> bool
     !entry.charts.is_empty() || !entry.dimensions.is_empty()
 }
 
-/// Takes the entry of a beat, which settings are not, and says what the beat does to alarms.
-fn take_entry(alloc: Global, left: &mut Left, entry: &Entry) -> Result<Stepping, AgentFault>
+/// Takes the entry of a beat, and says what the beat does to alarms.
+fn take_entry(alloc: Global, left: &mut Left, entry: &Entry) -> Result<Stepping, OpenFault>
     ensures does { IfOk result (IsDoneBy entry.now) }
     ensures there { OnOk result (IsEntryThere left.new.registry entry.now) }
     ensures same { IfOk result
@@ -178,16 +178,15 @@ fn take_entry(alloc: Global, left: &mut Left, entry: &Entry) -> Result<Stepping,
         (HasRows left.new.registry left.old.last_rows left.new.last_rows entry.now) }
     ensures next { OnOk result (entry_goes_on (noted_in left.old) entry.now ≡ true) }
     ensures broken { IfErr result
-        (λ fault. fault ≡ AgentFault.Damaged 5
+        (λ fault. fault ≡ OpenFault.Damaged 5
         → entry_goes_on (noted_in left.old) entry.now ≡ false) }
     ensures faults { IfErr result
-        (λ fault. (fault ≡ AgentFault.Memory) ⊎ (fault ≡ AgentFault.Damaged 5)) }
+        (λ fault. (fault ≡ OpenFault.Memory) ⊎ (fault ≡ OpenFault.Damaged 5)) }
     ensures latest { left.new.latest ≡ left.old.latest }
     ensures gaps { OnOk result (left.new.gaps ≡ gaps_after left.old.gaps entry.now) }
     ensures alarms { left.new.alarms ≡ left.old.alarms }
 {
     match entry {
-        Entry::Settings(_) => Err(AgentFault::Damaged(5)),
         Entry::Collected(found) => {
             take_collected(left, found)?;
             Ok(Stepping::Beat(found.moment, defines_some(found)))
@@ -214,19 +213,18 @@ fn see_entry(
     entry: &Entry,
     points: &[BeatPoint],
     before: u32,
-) -> Result<(), AgentFault>
+) -> Result<(), AllocError>
     requires there { IsEntryThere left.old.registry entry.now }
     requires named { names_series left.old.registry points.now ≡ true }
     ensures seen { OnOk result
         (HasSeen left.old.registry left.old.latest left.new.latest entry.now points.now) }
     ensures before { OnOk result (left.new.latest.before ≡ before) }
     ensures only { left.new ≡ record left.old { latest = left.new.latest } }
-    ensures memory { IfErr result (λ fault. fault ≡ AgentFault.Memory) }
 {
     match entry {
         Entry::Collected(found) => see_beat(alloc, left, found, points, before),
         Entry::Copied(found) => see_copy(alloc, left, found.moment, points, before),
-        Entry::Settings(_) | Entry::Health(_) | Entry::Gap(_) => {
+        Entry::Health(_) | Entry::Gap(_) => {
             left.latest.before = before;
             Ok(())
         }
@@ -249,7 +247,7 @@ pub(crate) fn replay_beat(
     left: &mut Left,
     kept: &Beat,
     before: u32,
-) -> Result<Stepping, AgentFault>
+) -> Result<Stepping, OpenFault>
     requires charts { AreApart same_chart left.old.registry.charts }
     requires dimensions { AreApart same_dimension left.old.registry.dimensions }
     requires limits { HasLimits left.old.registry }
@@ -268,25 +266,25 @@ pub(crate) fn replay_beat(
     ensures stands { IfErr result
         (λ fault. (set : ASettings) (g : List HistoryBeat) (beats : List StoreBeat)
         (beat : HistoryBeat) → AreBeatsOf g beats → IsBeatOf g beat kept.now
-        → IsLeftBy set g left.old → fault ≡ AgentFault.Memory) }
+        → IsLeftBy set g left.old → fault ≡ OpenFault.Memory) }
 
     // Whatever beat it is: its note has an entry that goes on and its points are of series that are there then,
     // or it is damaged.
     ensures left { OnOk result (noted_in left.new ≡ with_note (noted_in left.old) kept.now) }
     ensures next { OnOk result (takes_note (noted_in left.old) kept.now ≡ true) }
     ensures broken { IfErr result
-        (λ fault. fault ≡ AgentFault.Damaged 5 → takes_note (noted_in left.old) kept.now ≡ false) }
+        (λ fault. fault ≡ OpenFault.Damaged 5 → takes_note (noted_in left.old) kept.now ≡ false) }
     ensures charts { OnOk result (AreApart same_chart left.new.registry.charts) }
     ensures dimensions { OnOk result (AreApart same_dimension left.new.registry.dimensions) }
     ensures limits { OnOk result (HasLimits left.new.registry) }
     ensures faults { IfErr result
-        (λ fault. (fault ≡ AgentFault.Memory) ⊎ (fault ≡ AgentFault.Damaged 5)) }
+        (λ fault. (fault ≡ OpenFault.Memory) ⊎ (fault ≡ OpenFault.Damaged 5)) }
 {
     let entry = entry_in(alloc, kept)?;
     let does = take_entry(alloc, left, &entry)?;
     let points = kept.points.as_slice();
     if !names_series(&left.registry, points) {
-        return Err(AgentFault::Damaged(5));
+        return Err(OpenFault::Damaged(NOTE_PART));
     }
     see_entry(alloc, left, &entry, points, before)?;
     Ok(does)

@@ -11,10 +11,10 @@ ghost use Rattle.tier_settings.specs.declared.settings.Settings.{Settings as ASe
 ghost use Rattle.store_core.specs.declared.beats.beat.Beat.{Beat as StoreBeat};
 ghost use Rattle.store_core.specs.disk.Holds.{OnlyOwn};
 ghost use Rattle.store_core.specs.disk.Shares.{IsWithin};
-ghost use Rattle.store_core.specs.beats.Records.{with_all, TakesFirst};
+ghost use Rattle.store_core.specs.beats.Records.{with_all};
 ghost use Rattle.store_core.specs.Damaged.{HasForm, IsDamagedIn};
 ghost use Rattle.store_core.specs.Stands.{is_made, Stands};
-ghost use Rattle.store_core.specs.Store.{IsReady, IsReplayed, IsStoreAt, OpensAt, Replays};
+ghost use Rattle.store_core.specs.Store.{IsReady, IsReplayed, OpensAt};
 ghost use Rattle.store_core.specs.Stored.{Stored as AStored};
 ghost use Rattle.agent_core.specs.Faults.{IsUnopened, IsUnreplayed};
 ghost use Rattle.agent_core.specs.Stands.{HoldsHistory};
@@ -23,15 +23,15 @@ ghost use Rattle.agent_core.specs.Notes.{beats_go_on, left_after, noted_in, Note
 ghost use Rattle.agent_core.specs.Replay.{HasTaken, IsAtPrefix, IsReplaying};
 
 use crate::alarming::follow;
-use crate::fault::AgentFault;
+use crate::fault::OpenFault;
 use crate::left::Left;
 use crate::notes::replay_beat;
 use host_model::Host;
 use std::alloc::Global;
-use store_core::{Beat, Store};
+use store_core::Store;
 
 /// Opens the store of an agent, none of whose beats since the checkpoint is replayed yet.
-pub(crate) fn open_store<H: Host>(alloc: Global, host: &mut H) -> Result<Store, AgentFault>
+pub(crate) fn open_store<H: Host>(alloc: Global, host: &mut H) -> Result<Store, OpenFault>
     ensures opened { IfOk result (λ store. H.honest → (stored : AStored)
         → Stands stored (reads_as (H.seen host.old).past)
         → OpensAt (H.seen host.new).past store stored) }
@@ -47,19 +47,19 @@ pub(crate) fn open_store<H: Host>(alloc: Global, host: &mut H) -> Result<Store, 
         → EveryDisk (Stands stored) (H.seen host.new).past) }
     ensures stands { H.honest → (stored : AStored)
         → Stands stored (reads_as (H.seen host.old).past)
-        → IfErr result (λ fault. (fault ≡ AgentFault.DiskFault) ⊎ (fault ≡ AgentFault.Memory)) }
-    ensures none { IsErrOf result AgentFault.NotADatabase → H.honest
+        → IfErr result (λ fault. (fault ≡ OpenFault.DiskFault) ⊎ (fault ≡ OpenFault.Memory)) }
+    ensures none { IsErrOf result OpenFault.NotADatabase → H.honest
         → is_made (reads_as (H.seen host.old).past) ≡ false }
     ensures some { OnOk result (H.honest → is_made (reads_as (H.seen host.old).past) ≡ true) }
     ensures form { IfOk result (λ store. H.honest
         → HasForm store.body store.waiting (reads_as (H.seen host.old).past)) }
-    ensures damaged { (part : ℕ) → IsErrOf result (AgentFault.Damaged part) → H.honest
+    ensures damaged { (part : ℕ) → IsErrOf result (OpenFault.Damaged part) → H.honest
         → IsDamagedIn part (reads_as (H.seen host.old).past) }
     ensures whole { OnOk result (H.honest → (part : ℕ)
         → IsDamagedIn part (reads_as (H.seen host.old).past) → ⊥) }
     ensures faults { IfErr result IsUnopened }
     ensures cause { HasCause (H.seen host.old).disk_faults (H.seen host.new).disk_faults
-        (IsErrOf result AgentFault.DiskFault) }
+        (IsErrOf result OpenFault.DiskFault) }
     ensures bound { (shares : AFile → ℕ) → H.honest → IsWithin shares (H.seen host.old).past
         → Throughout (IsWithin shares) (H.seen host.old).past (H.seen host.new).past }
     ensures only_here { H.honest → OnlyOwn (H.seen host.old).past (H.seen host.new).past }
@@ -68,33 +68,13 @@ pub(crate) fn open_store<H: Host>(alloc: Global, host: &mut H) -> Result<Store, 
     Ok(Store::open(alloc, host)?)
 }
 
-/// Gives the next beat that a store has to replay.
-fn next_beat<H: Host>(store: &mut Store, _host: &mut H) -> Result<Option<Beat>, AgentFault>
-    requires going { store.old.fault ≡ None }
-    ensures next { (past : List Event) (stored : AStored) (rest : List StoreBeat)
-        → IsStoreAt past store.old stored rest
-        → IfOk result (Replays past store.new stored rest) }
-
-    // The same, of a store of which it is not known what it has stored.
-    ensures takes { IfOk result (λ next. TakesFirst store.old.waiting next store.new.waiting) }
-    ensures ready { (past : List Event) → IsReady H.honest past store.old
-        → IsReady H.honest past store.new }
-    ensures files { store.new.files ≡ store.old.files }
-    ensures body { store.new.body ≡ store.old.body }
-    ensures going { OnOk result (store.new.fault ≡ None) }
-    ensures host { _host.new ≡ _host.old }
-    ensures faults { IfErr result (λ fault. fault ≡ AgentFault.Memory) }
-{
-    Ok(store.replay()?)
-}
-
 /// Replays the next beat, and whether there was one.
 fn replay_next<H: Host>(
     alloc: Global,
     store: &mut Store,
     host: &mut H,
     left: &mut Left,
-) -> Result<bool, AgentFault>
+) -> Result<bool, OpenFault>
     requires going { store.old.fault ≡ None }
     requires fit { IsFit left.old }
     ensures replaying { OnOk result
@@ -104,14 +84,14 @@ fn replay_next<H: Host>(
     // Where the store is that of a history, only memory can be short.
     ensures stands { IfErr result
         (λ fault. (past : List Event) (set : ASettings) (h : List HistoryBeat)
-        → IsReplaying past store.old left.old set h → fault ≡ AgentFault.Memory) }
+        → IsReplaying past store.old left.old set h → fault ≡ OpenFault.Memory) }
 
     // Whatever beats the store keeps: they go on so far, and where one does not, it is damaged.
     ensures notes { OnOk result ((start : Noted) (beats : List StoreBeat)
         → HasTaken start beats store.old left.old
         → HasTaken start beats store.new left.new) }
     ensures broken { IfErr result
-        (λ fault. fault ≡ AgentFault.Damaged 5 → (start : Noted) (beats : List StoreBeat)
+        (λ fault. fault ≡ OpenFault.Damaged 5 → (start : Noted) (beats : List StoreBeat)
         → HasTaken start beats store.old left.old
         → beats_go_on start (with_all [] beats) ≡ false) }
 
@@ -129,7 +109,7 @@ fn replay_next<H: Host>(
     ensures faults { IfErr result IsUnreplayed }
 {
     let before = store.last();
-    match next_beat(store, host)? {
+    match store.replay()? {
         Some(kept) => {
             let does = replay_beat(alloc, left, &kept, before)?;
             follow(alloc, left, store, host, does)?;
@@ -145,7 +125,7 @@ pub(crate) fn replay_all<H: Host>(
     store: &mut Store,
     host: &mut H,
     left: &mut Left,
-) -> Result<(), AgentFault>
+) -> Result<(), OpenFault>
     requires going { store.old.fault ≡ None }
     requires fit { IsFit left.old }
 
@@ -158,14 +138,14 @@ pub(crate) fn replay_all<H: Host>(
         → IsLeftBy set h left.new) }
     ensures stands { IfErr result (λ fault. (past : List Event) (set : ASettings)
         (g h : List HistoryBeat) → IsAtPrefix past store.old set g h → IsLeftBy set g left.old
-        → fault ≡ AgentFault.Memory) }
+        → fault ≡ OpenFault.Memory) }
 
     // Whatever beats wait: their notes go on, or it is damaged.
     ensures notes { OnOk result
         (beats_go_on (noted_in left.old) (with_all [] store.old.waiting) ≡ true) }
     ensures noted { OnOk result (noted_in left.new
         ≡ left_after (noted_in left.old) (with_all [] store.old.waiting)) }
-    ensures broken { IfErr result (λ fault. fault ≡ AgentFault.Damaged 5
+    ensures broken { IfErr result (λ fault. fault ≡ OpenFault.Damaged 5
         → beats_go_on (noted_in left.old) (with_all [] store.old.waiting) ≡ false) }
 
     // What holds of any store.

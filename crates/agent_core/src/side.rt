@@ -21,7 +21,7 @@ ghost use Rattle.agent_core.specs.Notes.{is_good, noted_in, noted_in_side, role_
 ghost use Rattle.agent_core.specs.Sides.{all_charts, all_dimensions, dimension_at, filled, point_back, raw_of, side_by, side_role, stored_point, IsReadFrom, IsSideOf};
 ghost use Rattle.agent_core.specs.Storing.{defining};
 
-use crate::fault::AgentFault;
+use crate::fault::OpenFault;
 use crate::gaps::Gaps;
 use crate::left::{Left, Role};
 use alarm_core::{Alarms, Latest, SeriesPointList, SeriesValueList};
@@ -128,14 +128,16 @@ fn stored_points(alloc: Global, points: &[Option<Point>]) -> Result<LastPointLis
 
 /// The side of what beats left, where this is the floor of tier 0.
 #[tactic(auto, unfolding(crate::specs::Sides::side_by))]
-fn side_of(alloc: Global, left: &Left, floor: u32) -> Result<Side, AgentFault>
-    ensures side { IfOk result (λ side. side ≡ side_by floor left.now) }
-    ensures memory { IfErr result (λ fault. fault ≡ AgentFault.Memory) }
+fn side_of(alloc: Global, left: &Left, floor: u32) -> Result<Side, AllocError>
+    ensures { IfOk result (λ side. side ≡ side_by floor left.now) }
 {
     let registry = &left.registry;
     let charts = registry.charts() as usize;
     let series = registry.dimensions() as usize;
     let points = filled(alloc, left.latest.points.as_slice(), series, None)?;
+    let Ok(alarms) = left.alarms.keep() else {
+        return Err(AllocError);
+    };
     Ok(Side {
         role: side_role(left.role),
         charts: all_charts(alloc, registry)?,
@@ -143,29 +145,28 @@ fn side_of(alloc: Global, left: &Left, floor: u32) -> Result<Side, AgentFault>
         chart_moments: filled(alloc, left.latest.charts.as_slice(), charts, 0)?,
         last_rows: filled(alloc, left.last_rows.as_slice(), series, None)?,
         last_points: stored_points(alloc, points.as_slice())?,
-        alarms: left.alarms.keep()?,
+        alarms,
         gaps: left.gaps.above(alloc, floor)?,
     })
 }
 
-/// The side of what beats left, where this is the floor of tier 0. `Memory` also where it would have 2^32 bytes or no
+/// The side of what beats left, where this is the floor of tier 0. It fails also where it would have 2^32 bytes or no
 /// spelling.
-pub(crate) fn write_left(alloc: Global, left: &Left, floor: u32) -> Result<ByteList, AgentFault>
+pub(crate) fn write_left(alloc: Global, left: &Left, floor: u32) -> Result<ByteList, AllocError>
     ensures side { IfOk result (λ bytes. (set : ASettings) (h : List HistoryBeat)
         (beats : List StoreBeat) → AreBeatsOf h beats → IsLeftBy set h left.now
         → floor ≡ floor_of_history set h 0 → IsSideOf set h bytes) }
     ensures short { IfOk result (λ bytes. length bytes < 2 ^ 32) }
     ensures size { IfOk result (λ bytes. KeepLimits (kept (held left.now.alarms))
         → length bytes ≤ side_limit (length (gaps_above floor left.now.gaps))) }
-    ensures memory { IfErr result (λ fault. fault ≡ AgentFault.Memory) }
 {
     let side = side_of(alloc, left, floor)?;
     if !is_short(&side) {
-        return Err(AgentFault::Memory);
+        return Err(AllocError);
     }
     let bytes = write_side(alloc, &side)?;
     if bytes.len() > MOST_BYTES {
-        return Err(AgentFault::Memory);
+        return Err(AllocError);
     }
     Ok(bytes)
 }
@@ -233,15 +234,15 @@ fn defined(
     alloc: Global,
     charts: ChartList,
     dimensions: DimensionList,
-) -> Result<Registry, AgentFault>
+) -> Result<Registry, OpenFault>
     ensures defined { IfOk result
         (λ registry. registry ≡ with_numbered empty (defining charts dimensions)) }
     ensures next { OnOk result (goes_on empty (defining charts dimensions) ≡ true) }
     ensures broken { IfErr result
-        (λ fault. fault ≡ AgentFault.Damaged 5
+        (λ fault. fault ≡ OpenFault.Damaged 5
         → goes_on empty (defining charts dimensions) ≡ false) }
     ensures faults { IfErr result
-        (λ fault. (fault ≡ AgentFault.Memory) ⊎ (fault ≡ AgentFault.Damaged 5)) }
+        (λ fault. (fault ≡ OpenFault.Memory) ⊎ (fault ≡ OpenFault.Damaged 5)) }
 {
     let mut registry = Registry::new(alloc);
     define_charts(&mut registry, charts.as_slice())?;
@@ -250,14 +251,14 @@ fn defined(
 }
 
 /// The alarms that were kept so, or the database is damaged.
-fn alarms_of(alloc: Global, kept: &KeptAlarms, registry: &Registry) -> Result<Alarms, AgentFault>
+fn alarms_of(alloc: Global, kept: &KeptAlarms, registry: &Registry) -> Result<Alarms, OpenFault>
     requires { length kept.now.events ≤ SHOWN }
     ensures held { IfOk result (λ alarms. of_kept registry.now kept.now ≡ Some (held alarms)) }
     ensures up_to { IfOk result (λ alarms. IsUpTo alarms registry.now) }
     ensures broken { IfErr result
-        (λ fault. fault ≡ AgentFault.Damaged 5 → of_kept registry.now kept.now ≡ None) }
+        (λ fault. fault ≡ OpenFault.Damaged 5 → of_kept registry.now kept.now ≡ None) }
     ensures faults { IfErr result
-        (λ fault. (fault ≡ AgentFault.Memory) ⊎ (fault ≡ AgentFault.Damaged 5)) }
+        (λ fault. (fault ≡ OpenFault.Memory) ⊎ (fault ≡ OpenFault.Damaged 5)) }
 {
     Ok(Alarms::from_kept(alloc, kept, registry)?)
 }
@@ -268,12 +269,11 @@ fn latest_of(
     charts: ListOf<u32>,
     rows: &[Option<Last>],
     points: &[Option<LastPoint>],
-) -> Result<Latest, AgentFault>
+) -> Result<Latest, AllocError>
     ensures charts { IfOk result (λ latest. latest.charts ≡ charts) }
     ensures points { IfOk result (λ latest.
         latest.points ≡ map (option_map point_back) points.now) }
     ensures raws { IfOk result (λ latest. latest.raws ≡ map (option_map raw_of) rows.now) }
-    ensures memory { IfErr result (λ fault. fault ≡ AgentFault.Memory) }
 {
     Ok(Latest {
         before: 0,
@@ -284,13 +284,13 @@ fn latest_of(
 }
 
 /// What a side says, or the database is damaged.
-fn left_of(alloc: Global, side: Side) -> Result<Left, AgentFault>
+fn left_of(alloc: Global, side: Side) -> Result<Left, OpenFault>
     requires { HasSpelling side }
     ensures read { IfOk result (IsReadFrom side) }
     ensures broken { IfErr result
-        (λ fault. fault ≡ AgentFault.Damaged 5 → is_good side ≡ false) }
+        (λ fault. fault ≡ OpenFault.Damaged 5 → is_good side ≡ false) }
     ensures faults { IfErr result
-        (λ fault. (fault ≡ AgentFault.Memory) ⊎ (fault ≡ AgentFault.Damaged 5)) }
+        (λ fault. (fault ≡ OpenFault.Memory) ⊎ (fault ≡ OpenFault.Damaged 5)) }
 {
     let Side {
         role,
@@ -321,33 +321,33 @@ fn left_of(alloc: Global, side: Side) -> Result<Left, AgentFault>
 }
 
 /// The side whose bytes these are, or the database is damaged.
-fn side_in(alloc: Global, bytes: &[u8]) -> Result<Side, AgentFault>
+fn side_in(alloc: Global, bytes: &[u8]) -> Result<Side, OpenFault>
     ensures found { IfOk result (λ side. read_side bytes.now ≡ Some side) }
     ensures spelt { IfOk result HasSpelling }
     ensures broken { IfErr result
-        (λ fault. fault ≡ AgentFault.Damaged 5 → read_side bytes.now ≡ None) }
+        (λ fault. fault ≡ OpenFault.Damaged 5 → read_side bytes.now ≡ None) }
     ensures faults { IfErr result
-        (λ fault. (fault ≡ AgentFault.Memory) ⊎ (fault ≡ AgentFault.Damaged 5)) }
+        (λ fault. (fault ≡ OpenFault.Memory) ⊎ (fault ≡ OpenFault.Damaged 5)) }
 {
     Ok(read_side(alloc, bytes)?)
 }
 
 /// What beats left, from the side of it, or the database is damaged.
-pub(crate) fn read_left(alloc: Global, bytes: &[u8]) -> Result<Left, AgentFault>
+pub(crate) fn read_left(alloc: Global, bytes: &[u8]) -> Result<Left, OpenFault>
     ensures left { IfOk result (λ left. (set : ASettings) (h : List HistoryBeat)
         (beats : List StoreBeat) → AreBeatsOf h beats → IsSideOf set h bytes.now
         → IsLeftBy set h left) }
     ensures stands { IfErr result (λ fault. (set : ASettings) (h : List HistoryBeat)
         (beats : List StoreBeat) → AreBeatsOf h beats → IsSideOf set h bytes.now
-        → fault ≡ AgentFault.Memory) }
+        → fault ≡ OpenFault.Memory) }
 
     // Whatever side it is: it is good, or the database is damaged.
     ensures noted { IfOk result (λ left. noted_in_side bytes.now ≡ Some (noted_in left)) }
     ensures broken { IfErr result
-        (λ fault. fault ≡ AgentFault.Damaged 5 → noted_in_side bytes.now ≡ None) }
+        (λ fault. fault ≡ OpenFault.Damaged 5 → noted_in_side bytes.now ≡ None) }
     ensures fit { IfOk result IsFit }
     ensures faults { IfErr result
-        (λ fault. (fault ≡ AgentFault.Memory) ⊎ (fault ≡ AgentFault.Damaged 5)) }
+        (λ fault. (fault ≡ OpenFault.Memory) ⊎ (fault ≡ OpenFault.Damaged 5)) }
 {
     let side = side_in(alloc, bytes)?;
     left_of(alloc, side)

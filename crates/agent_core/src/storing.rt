@@ -1,6 +1,6 @@
 //! How the gap and the beats of a child's message are added to a history.
 
-ghost use Rattle.std.specs.Prelude.{◌≡◌, ◌<◌, ◌≤◌, ◌+◌, ◌++◌, ◌∷◌, ◌⊎◌, [], ℕ, List, Some, None, true, false, length, IfOk, IfErr, OnOk};
+ghost use Rattle.std.specs.Prelude.{◌≡◌, ◌<◌, ◌≤◌, ◌+◌, ◌++◌, ◌∷◌, ◌⊎◌, [], ℕ, List, Some, None, true, false, length, IfOk, OnOk};
 ghost use Rattle.alarm_core.specs.UpTo.{IsUpTo};
 ghost use Rattle.host_model.specs.Past.{Event};
 ghost use Rattle.host_model.specs.Disks.{EveryDisk};
@@ -41,7 +41,7 @@ use history::{NumberedChart, NumberedDimension, OpenBeat};
 use host_model::Host;
 use replication::{Beat as SentBeat, Data, Names};
 use side_codec::GapSpan;
-use std::alloc::Global;
+use std::alloc::{AllocError, Global};
 use store_core::{Beat, Store};
 
 /// Adds a gap of a child, the moments above `from` up to `to`, to a store that is still of use. At every moment a
@@ -128,7 +128,8 @@ fn store_copy<H: Host>(
     let before = store.last();
     commit(store, host, kept)?;
     left.last_rows.make_room(&left.registry)?;
-    see_copy(alloc, left, moment, kept.points.as_slice(), before)
+    see_copy(alloc, left, moment, kept.points.as_slice(), before)?;
+    Ok(())
 }
 
 /// Adds a beat of a message that defines this, where the registry has the definitions of the
@@ -198,13 +199,12 @@ fn add_copy<H: Host>(
     )?;
     store_copy(alloc, store, left, host, &kept, moment)?;
     left.role = Role::Copies(message.child);
-    follow(alloc, left, store, host, Stepping::Beat(moment, fresh))
+    Ok(follow(alloc, left, store, host, Stepping::Beat(moment, fresh))?)
 }
 
 /// Adds events to those before them.
-fn add_events(events: &mut EventList, more: EventList) -> Result<(), AgentFault>
-    ensures added { OnOk result (events.new ≡ events.old ++ more) }
-    ensures memory { IfErr result (λ fault. fault ≡ AgentFault.Memory) }
+fn add_events(events: &mut EventList, more: EventList) -> Result<(), AllocError>
+    ensures { OnOk result (events.new ≡ events.old ++ more) }
 {
     for event in more.into_vec() {
         events.push(event)?;
@@ -360,14 +360,12 @@ fn add_beats<H: Host>(
 }
 
 /// Adds a gap to those that are left. After an `Err` nothing of these is of use.
-fn join_gap(left: &mut Left, from: u32, to: u32) -> Result<(), AgentFault>
+fn join_gap(left: &mut Left, from: u32, to: u32) -> Result<(), AllocError>
     ensures joined { OnOk result
         (left.new.gaps ≡ join_gap left.old.gaps (record { from = from; to = to })) }
     ensures only { left.new ≡ record left.old { gaps = left.new.gaps } }
-    ensures memory { IfErr result (λ fault. fault ≡ AgentFault.Memory) }
 {
-    left.gaps.join(GapSpan { from, to })?;
-    Ok(())
+    left.gaps.join(GapSpan { from, to })
 }
 
 /// Adds the gap before the beats of a message, if there is one. At every moment a crash leaves the history with the
@@ -440,7 +438,7 @@ fn define(
     registry: &mut Registry,
     names: &Names,
     defs: &OpenBeat,
-) -> Result<Numbers, AgentFault>
+) -> Result<Numbers, AllocError>
     requires is_open { IsOpenBeat defs.now }
     requires no_rows { defs.now.rows ≡ [] }
     requires has_charts { lacks_chart registry.old defs.now ≡ false }
@@ -463,7 +461,6 @@ fn define(
     ensures charts { OnOk result (AreApart same_chart registry.new.charts) }
     ensures dimensions { OnOk result (AreApart same_dimension registry.new.dimensions) }
     ensures limits { OnOk result (HasLimits registry.new) }
-    ensures memory { IfErr result (λ fault. fault ≡ AgentFault.Memory) }
 {
     let definitions = number_definitions(alloc, registry, defs)?;
     let charts = definitions.charts.as_slice();

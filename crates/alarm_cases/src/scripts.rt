@@ -158,10 +158,13 @@ fn stepped(
     Ok(alarms.step(moment, registry, latest, points)?)
 }
 
-/// The alarms of the bytes of others.
+/// The alarms of what is kept of others.
 fn again(alloc: Global, alarms: &Alarms, registry: &Registry) -> Result<Alarms, Fail> {
-    let bytes = alarms.to_bytes()?;
-    Ok(Alarms::from_bytes(alloc, bytes.as_slice(), registry)?)
+    let kept = alarms.keep()?;
+    if kept.events.len() > 1_000 {
+        return Err(Fail::from("more events are kept than a log shows"));
+    }
+    Ok(Alarms::from_kept(alloc, &kept, registry)?)
 }
 
 /// The lines of events.
@@ -194,7 +197,7 @@ fn logged(alloc: Global, alarms: &Alarms) -> Result<String, Fail> {
     lines(alloc, log.events.as_slice())
 }
 
-/// What beats tell, after each of which the alarms are read again from their bytes; and the log behind them.
+/// What beats tell, after each of which the alarms are those of what is kept of them; and the log behind them.
 fn run(alloc: Global, text: &str, beats: &[Beat]) -> Result<(String, String), Fail> {
     let registry = two_charts(alloc)?;
     let mut alarms = configured(alloc, text, &registry)?;

@@ -1,6 +1,6 @@
--- Whole alarms are read again from their bytes.
+-- Whole alarms come back from what is kept of them.
 use Rattle.std.proofs.Common.{◌≡◌, ℕ, ◌+◌, ◌<◌, ◌==◌, Bool, true, false, cond, ltb, List, [], ◌∷◌, length, map, find, take, Option, Some, None, Result, Ok, refl, sym, ap, ◌∙◌}
-use Rattle.std.specs.Prelude.{slice_get, option_and_then}
+use Rattle.std.specs.Prelude.{slice_get}
 use Rattle.std.specs.List.{AllByRecursion, enumerate_from, list_all}
 use Rattle.std.specs.Option.{is_none, option_map_or}
 use Rattle.std.specs.Str.{bytes_eq, chars, is_utf8}
@@ -15,8 +15,6 @@ use Rattle.health_config.specs.Entity.{Alarm}
 use Rattle.health_config.specs.declared.fault.ConfigFault.{ConfigFault}
 use Rattle.history.specs.Registry.{Registry}
 use Rattle.history.specs.declared.chart.ChartDef.{ChartDef}
-use Rattle.alarm_events.proofs.AlarmsLaw.{reads_back}
-use Rattle.alarm_events.specs.Alarms.{alarms_bytes, HasSpelling}
 use Rattle.alarm_events.specs.declared.kept.KeptAlarms.{KeptAlarms}
 use Rattle.alarm_events.specs.declared.state.KeptState.{KeptState}
 use Rattle.alarm_core.specs.declared.pairs.Pair.{Pair}
@@ -28,7 +26,7 @@ use Rattle.alarm_core.specs.declared.step.Step.{Step}
 use Rattle.alarm_core.specs.Beats.{Beat, after_step, step_of, states_after}
 use Rattle.alarm_core.specs.Charts.{owner, owner_of}
 use Rattle.alarm_core.specs.Course.{Held, nothing, configured, stepped_by, states_of_pairs}
-use Rattle.alarm_core.specs.Kept.{kept, kept_state, is_named, is_pair_of, lost_among, holder_of, state_by, state_at, restored_states, held_with, held_from, is_known, of_config, of_kept, restored}
+use Rattle.alarm_core.specs.Kept.{kept, kept_state, is_named, is_pair_of, lost_among, holder_of, state_by, state_at, restored_states, held_with, held_from, is_known, of_config, of_kept}
 use Rattle.alarm_core.specs.Pairing.{is_of, state_of, states_of, fresh}
 use Rattle.alarm_core.specs.Pairs.{first_pairs, wanted}
 use Rattle.alarm_core.specs.Whole.{IsTextOf, IsWhole}
@@ -172,11 +170,6 @@ pub kept_again : (held : Held) (registry : Registry) → IsWhole held registry �
 kept_again held registry whole =
     ap (λ (read : Result Configuration ConfigFault). of_config registry (kept held) read) whole.text.1
     ∙ of_states held registry whole.none_lost whole.states
-
-pub read_again : (held : Held) (registry : Registry) → IsWhole held registry → HasSpelling (kept held) → restored (alarms_bytes (kept held)) registry ≡ Some held
-unfolding restored
-read_again held registry whole fits =
-    ap (λ (read : Option KeptAlarms). option_and_then (of_kept registry) read) (reads_back (kept held) fits) ∙ kept_again held registry whole
 
 -- ---- calls leave whole alarms
 

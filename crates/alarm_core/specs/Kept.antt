@@ -1,5 +1,5 @@
--- What is kept of alarms as bytes, and the alarms that bytes stand for.
-use Rattle.std.specs.Prelude.{ℕ, ◌==◌, Bool, false, ◌&&◌, nat_lt, if◌then◌else◌, List, length, map, filter, find, take, slice_get, Option, Some, None, option_and_then, Result, Ok, Err}
+-- What is kept of alarms, and the alarms that were kept so.
+use Rattle.std.specs.Prelude.{ℕ, ◌==◌, Bool, false, ◌&&◌, nat_lt, if◌then◌else◌, List, length, map, filter, find, take, slice_get, Option, Some, None, Result, Ok, Err}
 use Rattle.std.specs.List.{enumerate_from, list_all}
 use Rattle.std.specs.Option.{is_none, option_map_or}
 use Rattle.std.specs.Str.{bytes_eq}
@@ -7,7 +7,6 @@ use Rattle.health_config.specs.Config.{Configuration, config_read}
 use Rattle.health_config.specs.Entity.{Alarm}
 use Rattle.health_config.specs.declared.fault.ConfigFault.{ConfigFault}
 use Rattle.history.specs.Registry.{Registry}
-use Rattle.alarm_events.specs.Alarms.{read_alarms}
 use Rattle.alarm_events.specs.declared.kept.KeptAlarms.{KeptAlarms}
 use Rattle.alarm_events.specs.declared.state.KeptState.{KeptState}
 use Rattle.alarm_core.specs.declared.pairs.Pair.{Pair}
@@ -102,7 +101,3 @@ of_config registry kept (Err fault) = None
 
 abbrev pub of_kept : Registry → KeptAlarms → Option Held
 of_kept registry kept = of_config registry kept (config_read kept.text)
-
--- the alarms that bytes stand for in a registry
-unfoldable pub restored : List ℕ → Registry → Option Held
-restored bytes registry = option_and_then (of_kept registry) (read_alarms bytes)

@@ -6,7 +6,7 @@ ghost use Rattle.alarm_core.specs.Charts.{AreTaken, wanted_on};
 
 use crate::beats::step_states;
 use crate::charts::{ChartWordsList, Pairing, are_states_of, pairing_of, renew};
-use crate::fault::AlarmFault;
+use crate::fault::{AlarmFault, RestoreFault};
 use crate::keep::kept_states;
 use crate::latest::Latest;
 use crate::pairing::{Turn, pair_states};
@@ -16,7 +16,7 @@ use crate::runs::RunList;
 use crate::sight::Sight;
 use crate::state::{NameList, State};
 use crate::telling::Told;
-use alarm_events::{EventList, EventLog, KeptAlarms, Log, is_short, read_alarms, write_alarms};
+use alarm_events::{EventList, EventLog, KeptAlarms, Log};
 use chart_registry::Registry;
 use fixed_num::ByteList;
 use health_config::{AlarmList, Config};
@@ -44,8 +44,7 @@ pub struct Alarms {
 
 impl Alarms {
     ghost use Rattle.std.specs.Prelude.{◌≤◌, ◌⊎◌, [], length, Some, None};
-    ghost use Rattle.alarm_events.specs.Alarms.{alarms_bytes, HasSpelling, IsShort};
-    ghost use Rattle.alarm_core.specs.Kept.{kept, held_from, of_kept, restored};
+    ghost use Rattle.alarm_core.specs.Kept.{kept, held_from, of_kept};
     ghost use Rattle.std.specs.Prelude.{ℕ, List, IfOk, IfErr, OnOk, IsErrOf};
     ghost use Rattle.health_config.specs.ConfigOf.{entities_of, text_of};
     ghost use Rattle.host_model.specs.Cause.{HasCause};
@@ -298,36 +297,19 @@ impl Alarms {
         })
     }
 
-    /// The alarms as bytes: the health text, the states with the names of their alarms, and the log.
-    /// `TooLong` exactly where no bytes have them, unless memory ran out before: the id of a chart or the
-    /// name of an alarm has more than 65,535 bytes, or a value is past the limit of expressions.
-    pub fn to_bytes(&self) -> Result<ByteList, AlarmFault>
-        ensures bytes { IfOk result (λ bytes. bytes ≡ alarms_bytes (kept (held self.now))) }
-        ensures written { OnOk result (HasSpelling (kept (held self.now))) }
-        ensures short { OnOk result (IsShort (kept (held self.now))) }
-        ensures refused { IfErr result (λ fault. (fault ≡ Memory)
-            ⊎ ((fault ≡ AlarmFault.TooLong) × (¬ (IsShort (kept (held self.now)))))) }
-    {
-        let kept = self.keep()?;
-        if !is_short(&kept) {
-            return Err(AlarmFault::TooLong);
-        }
-        Ok(write_alarms(self.alloc, &kept)?)
-    }
-
     /// The alarms of a configuration, with kept states and a kept log.
     fn with_kept(
         alloc: Global,
         registry: &Registry,
         config: Config,
         kept: &KeptAlarms,
-    ) -> Result<Alarms, AlarmFault>
+    ) -> Result<Alarms, RestoreFault>
         requires events { length kept.now.events ≤ SHOWN }
         requires text { text_of config ≡ kept.now.text }
         ensures held { IfOk result (λ alarms. held alarms
             ≡ held_from kept.now (map alarm_of (entities_of config)) registry.now) }
         ensures up_to { IfOk result (λ alarms. IsUpTo alarms registry.now) }
-        ensures memory { IfErr result (λ fault. fault ≡ Memory) }
+        ensures memory { IfErr result (λ fault. fault ≡ RestoreFault.Memory) }
     {
         let (text, alarms) = config.into_parts();
         let pairing = pairing_of(alloc, alarms.as_slice(), registry)?;
@@ -354,44 +336,24 @@ impl Alarms {
     }
 
     /// The alarms that were kept so, with the charts of a registry: a state's alarm is the one of its name that is
-    /// computed for its chart. A state that has none is removed by the next call that takes charts. `BadBytes` exactly
+    /// computed for its chart. A state that has none is removed by the next call that takes charts. `BadKept` exactly
     /// where the health text is refused, or a state is of a chart that is not there, unless memory ran out before.
     pub fn from_kept(
         alloc: Global,
         kept: &KeptAlarms,
         registry: &Registry,
-    ) -> Result<Alarms, AlarmFault>
+    ) -> Result<Alarms, RestoreFault>
         requires { length kept.now.events ≤ SHOWN }
         ensures held { IfOk result (λ alarms. of_kept registry.now kept.now ≡ Some (held alarms)) }
         ensures up_to { IfOk result (λ alarms. IsUpTo alarms registry.now) }
-        ensures refused { IfErr result (λ fault. (fault ≡ Memory)
-            ⊎ ((fault ≡ AlarmFault.BadBytes) × (of_kept registry.now kept.now ≡ None))) }
+        ensures refused { IfErr result (λ fault. (fault ≡ RestoreFault.Memory)
+            ⊎ ((fault ≡ RestoreFault.BadKept) × (of_kept registry.now kept.now ≡ None))) }
     {
         let config = read_config(alloc, kept.text.as_slice())?;
         if !are_known(kept.states.as_slice(), registry) {
-            return Err(AlarmFault::BadBytes);
+            return Err(RestoreFault::BadKept);
         }
         Alarms::with_kept(alloc, registry, config, kept)
-    }
-
-    /// The alarms that bytes stand for, with the charts of a registry: a state's alarm is the one of its name
-    /// that is computed for its chart. A state that has none is removed by the next call that takes charts.
-    /// `BadBytes` exactly where the bytes are in no form of alarms, their health text is refused, or a
-    /// state is of a chart that is not there, unless memory ran out before.
-    #[tactic(auto, unfolding(crate::specs::Kept::restored))]
-    pub fn from_bytes(
-        alloc: Global,
-        bytes: &[u8],
-        registry: &Registry,
-    ) -> Result<Alarms, AlarmFault>
-        ensures held { IfOk result
-            (λ alarms. restored bytes.now registry.now ≡ Some (held alarms)) }
-        ensures up_to { IfOk result (λ alarms. IsUpTo alarms registry.now) }
-        ensures refused { IfErr result (λ fault. (fault ≡ Memory)
-            ⊎ ((fault ≡ AlarmFault.BadBytes) × (restored bytes.now registry.now ≡ None))) }
-    {
-        let kept = read_alarms(alloc, bytes)?;
-        Alarms::from_kept(alloc, &kept, registry)
     }
 
     /// What the log shows: the last 1,000 events, and the number of those before them.

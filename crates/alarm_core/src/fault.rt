@@ -1,8 +1,8 @@
 ghost use Rattle.std.specs.Prelude.{◌≡◌};
-ghost use Rattle.alarm_core.specs.Faults.{fault_of, fault_of_kept};
-ghost use Rattle.alarm_core.specs.declared.fault.AlarmFault.TheVariants.{Memory};
+ghost use Rattle.alarm_core.specs.Faults.{fault_of};
+ghost use Rattle.alarm_core.specs.declared.fault.AlarmFault.{AlarmFault};
+ghost use Rattle.alarm_core.specs.declared.fault.RestoreFault.{RestoreFault};
 
-use alarm_events::KeptFault;
 use query_engine::PointFault;
 use std::alloc::AllocError;
 use thiserror::Error;
@@ -13,21 +13,24 @@ pub enum AlarmFault {
     /// The points could not be read. Who has them counted it.
     #[error("the points could not be read")]
     Disk,
-    /// The bytes are in no form of alarms, their health text is refused, or a state is of a chart that is not
-    /// there.
-    #[error("the bytes are no alarms of this history")]
-    BadBytes,
-    /// No bytes have the alarms: a text of theirs has more than 65,535 bytes, or a value is past the limit of
-    /// expressions.
-    #[error("the alarms are too long for bytes")]
-    TooLong,
+    /// There was no memory.
+    #[error("out of memory")]
+    Memory,
+}
+
+/// Why kept alarms are not taken again.
+#[derive(Clone, Copy, Debug, PartialEq, Eq, Error)]
+pub enum RestoreFault {
+    /// Their health text is refused, or a state is of a chart that is not there.
+    #[error("what was kept is no alarms of this history")]
+    BadKept,
     /// There was no memory.
     #[error("out of memory")]
     Memory,
 }
 
 impl From<AllocError> for AlarmFault {
-    ghost from_gives = { λ _ fault. fault ≡ Memory };
+    ghost from_gives = { λ _ fault. fault ≡ AlarmFault.Memory };
 
     fn from(_error: AllocError) -> AlarmFault {
         AlarmFault::Memory
@@ -35,7 +38,7 @@ impl From<AllocError> for AlarmFault {
 }
 
 impl From<alarm_events::AlarmFault> for AlarmFault {
-    ghost from_gives = { λ _ fault. fault ≡ Memory };
+    ghost from_gives = { λ _ fault. fault ≡ AlarmFault.Memory };
 
     fn from(_error: alarm_events::AlarmFault) -> AlarmFault {
         AlarmFault::Memory
@@ -53,13 +56,18 @@ impl From<PointFault> for AlarmFault {
     }
 }
 
-impl From<KeptFault> for AlarmFault {
-    ghost from_gives = { λ error fault. fault ≡ fault_of_kept error };
+impl From<AllocError> for RestoreFault {
+    ghost from_gives = { λ _ fault. fault ≡ RestoreFault.Memory };
 
-    fn from(error: KeptFault) -> AlarmFault {
-        match error {
-            KeptFault::BadBytes => AlarmFault::BadBytes,
-            KeptFault::Memory => AlarmFault::Memory,
-        }
+    fn from(_error: AllocError) -> RestoreFault {
+        RestoreFault::Memory
+    }
+}
+
+impl From<alarm_events::AlarmFault> for RestoreFault {
+    ghost from_gives = { λ _ fault. fault ≡ RestoreFault.Memory };
+
+    fn from(_error: alarm_events::AlarmFault) -> RestoreFault {
+        RestoreFault::Memory
     }
 }

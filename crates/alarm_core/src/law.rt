@@ -4,10 +4,10 @@ ghost use Rattle.alarm_events.specs.Log.{shown, counted};
 ghost use Rattle.std.specs.List.{range_with_len};
 ghost use Rattle.health_config.specs.Entity.{Alarm};
 ghost use Rattle.history.specs.Registry.{Registry};
-ghost use Rattle.alarm_events.specs.Alarms.{alarms_bytes, HasSpelling, IsShort};
+ghost use Rattle.alarm_events.specs.Alarms.{IsShort};
 ghost use Rattle.alarm_core.specs.Beats.{Beat};
 ghost use Rattle.alarm_core.specs.Course.{Call, Held, nothing, held_after, events_of, configured, stepped_by};
-ghost use Rattle.alarm_core.specs.Kept.{kept, of_kept, restored};
+ghost use Rattle.alarm_core.specs.Kept.{kept, of_kept};
 ghost use Rattle.alarm_core.specs.Same.{is_same};
 ghost use Rattle.alarm_core.specs.Short.{HaveShortIds, HaveShortNames};
 ghost use Rattle.alarm_core.specs.Whole.{IsTextOf, IsWhole};
@@ -16,8 +16,7 @@ ghost use Rattle.alarm_core.specs.Whole.{IsTextOf, IsWhole};
 /// are numbered from 1; at 2^64 - 1 numbers stand still. Two alarms say the same exactly where they have
 /// the same fields, with expressions as trees. Without a call alarms are whole with any charts. Behind a
 /// configuration that was read, and behind each beat after it, they are whole with the charts of that call;
-/// and whole alarms come back from what is kept of them, and from their bytes, if they have some. The call does
-/// nothing.
+/// and whole alarms come back from what is kept of them. The call does nothing.
 pub fn alarms_stay_whole()
     ensures log { (calls : List Call)
         → (held_after nothing calls).log ≡ shown (events_of nothing calls) }
@@ -32,14 +31,12 @@ pub fn alarms_stay_whole()
         → IsWhole (stepped_by held beat).held beat.registry }
     ensures kept_again { (held : Held) (registry : Registry) → IsWhole held registry
         → of_kept registry (kept held) ≡ Some held }
-    ensures again { (held : Held) (registry : Registry) → IsWhole held registry
-        → HasSpelling (kept held) → restored (alarms_bytes (kept held)) registry ≡ Some held }
 {}
 
 /// The law of alarms that have bytes. Without a call what is kept of alarms is short enough for bytes. So it
 /// is behind a configuration and behind a beat, where it was before, the names of the alarms and the ids of
-/// the charts have at most 65,535 bytes, and the text of the configuration fewer than 2^32. Then `to_bytes`
-/// does not answer `TooLong`. The call does nothing.
+/// the charts have at most 65,535 bytes, and the text of the configuration fewer than 2^32. The call does
+/// nothing.
 pub fn short_alarms()
     ensures nothing { IsShort (kept nothing) }
     ensures configured { (held : Held) (text : List ℕ) (alarms : List Alarm) (registry : Registry)

@@ -2,7 +2,7 @@
 //!
 //! `Alarms` has the alarms of a configuration, their states for each chart, and the log of events. `configure`
 //! takes another configuration, `step` a beat, and `step_again` one that defines no chart and no dimension;
-//! `from_bytes` reads what `to_bytes` kept. What they leave and tell is proved to be what the definitions in
+//! `from_kept` takes again what `keep` gave. What they leave and tell is proved to be what the definitions in
 //! `specs/` say of the alarms before (`Course.antt`). Points are read from an object that is `Points`, which may be
 //! silent. A lookup reads tier 0 alone, and its sums are exact.
 //!
@@ -45,7 +45,7 @@ mod window;
 
 pub use alarm_events::{Delay, Event, EventList, Log, Status, write_event};
 pub use alarms::Alarms;
-pub use fault::AlarmFault;
+pub use fault::{AlarmFault, RestoreFault};
 pub use latest::{Latest, SeriesPointList, SeriesValueList};
 pub use law::{alarms_stay_whole, short_alarms};
 pub use pairs::{MOST_PAIRS, Pair, PairList, wanted_pairs};

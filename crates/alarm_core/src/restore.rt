@@ -8,7 +8,7 @@ ghost use Rattle.health_config.specs.Entity.{alarm_of};
 ghost use Rattle.alarm_core.specs.Kept as spec;
 
 use crate::by_chart::{ByChart, by_chart};
-use crate::fault::AlarmFault;
+use crate::fault::RestoreFault;
 use crate::pairing::push_state;
 use crate::pairs::{Pair, alarm_in};
 use crate::state::{Holder, NameList, State, StateList};
@@ -26,16 +26,16 @@ pub struct Restored {
 }
 
 /// The configuration of a kept text.
-pub fn read_config(alloc: Global, text: &[u8]) -> Result<Config, AlarmFault>
+pub fn read_config(alloc: Global, text: &[u8]) -> Result<Config, RestoreFault>
     ensures config { IfOk result (λ config. config_read text.now ≡ Ok (configuration_of config)) }
     ensures text { IfOk result (λ config. text_of config ≡ text.now) }
-    ensures refused { IfErr result (λ fault. (fault ≡ AlarmFault.Memory)
-        ⊎ ((fault ≡ AlarmFault.BadBytes) × IsErr (config_read text.now))) }
+    ensures refused { IfErr result (λ fault. (fault ≡ RestoreFault.Memory)
+        ⊎ ((fault ≡ RestoreFault.BadKept) × IsErr (config_read text.now))) }
 {
     match Config::read(alloc, text) {
         Ok(config) => Ok(config),
-        Err(ConfigFault::Memory) => Err(AlarmFault::Memory),
-        Err(_) => Err(AlarmFault::BadBytes),
+        Err(ConfigFault::Memory) => Err(RestoreFault::Memory),
+        Err(_) => Err(RestoreFault::BadKept),
     }
 }
 

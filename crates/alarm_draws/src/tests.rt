@@ -3,8 +3,9 @@ ghost use Rattle.std.specs.Prelude.{◌<◌, IfOk};
 use alarm_core::{
     Alarms, Delay, EventList, Latest, Log, SeriesPointList, SeriesValueList, Status, write_event,
 };
+use alarm_events::{KeptAlarms, SHOWN};
 use chart_registry::Registry;
-use fixed_num::{ByteList, Frac, Text, Units};
+use fixed_num::{Frac, Text, Units};
 use health_config::Config;
 use history::{Algorithm, ChartDef, ChartKind, DimDef, NumberedChart, NumberedDimension};
 use query_engine::{ListPoints, MomentList, Point, PointList, SeriesPointsList};
@@ -87,12 +88,15 @@ fn stepped(
     Ok(alarms.step(moment, registry, latest, points)?)
 }
 
-fn bytes_of(alarms: &Alarms) -> Result<ByteList, Fail> {
-    Ok(alarms.to_bytes()?)
+fn kept_of(alarms: &Alarms) -> Result<KeptAlarms, Fail> {
+    Ok(alarms.keep()?)
 }
 
-fn alarms_of(alloc: Global, bytes: &[u8], registry: &Registry) -> Result<Alarms, Fail> {
-    Ok(Alarms::from_bytes(alloc, bytes, registry)?)
+fn alarms_of(alloc: Global, kept: &KeptAlarms, registry: &Registry) -> Result<Alarms, Fail> {
+    if kept.events.len() > SHOWN {
+        return Err(Fail::from("more events are kept than a log shows"));
+    }
+    Ok(Alarms::from_kept(alloc, kept, registry)?)
 }
 
 fn log_of(alarms: &Alarms) -> Result<Log, Fail> {

@@ -1,7 +1,7 @@
 //! The tests of `checkpoint`: two files, and which of them counts.
 
 use checkpoint::{CheckFault, load, switch};
-use host_model::{CallList, File, Host, MemoryHost};
+use host_model::{CallList, Failed, File, Host, MemoryHost};
 use std::alloc::Global;
 use std::test::Fail;
 
@@ -22,7 +22,7 @@ fn loads(
     Ok(found == number && bytes.as_slice() == body)
 }
 
-fn switched(host: &mut MemoryHost, number: u64, body: &[u8]) -> Result<(), CheckFault> {
+fn switched(host: &mut MemoryHost, number: u64, body: &[u8]) -> Result<(), Failed> {
     switch(host, number, body)
 }
 

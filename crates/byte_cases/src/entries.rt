@@ -11,15 +11,14 @@ const BEAT: &[u8; 122] =
     b"\x01\x3c\0\0\0\x01\0\0\0\0\0\0\0\x08\0test.one\x03\0one\x03\0One\x05\0units\x03\0one\x08\0test.one\0\xe8\x03\0\0\0\0\0\0\x01\0\0\0\0\x01\0\0\0\0\0\0\0\0\0\0\0\x01\0a\x01\0a\0\x01\0\0\0\x01\0\0\0\0\x01\0\0\0\0\0\0\0\x01\0\0\0\0\0\0\0\x2a\0\0\0\0\0\0\0\0";
 
 /// An entry of each other kind.
-static KINDS: [&[u8]; 4] = [
-    b"\0\x01\x07\0\0\0\0\0\0\0\x01\0\0\0\x02\0\0\0\x03\0\0\0\x04\0\0\0\x05\0\0\0\x06\0\0\0",
+static KINDS: [&[u8]; 3] = [
     b"\x02\x07\0\0\0\0\0\0\0\x3c\0\0\0\x01\0\0\0\x05\0\0\0\x03\0a.b\x01\0c\x0a\0\0\0\x01\0\0\0\x06\0\0\0\x05\0\0\0\x01\0d\x01\x01\0\0\0\x06\0\0\0\0\0\0\x01",
     b"\x03\x02\0\0\0\xff\x09",
     b"\x04\x07\0\0\0\0\0\0\0\x3c\0\0\0\x78\0\0\0",
 ];
 
 /// Whether what the bytes read as is written as them again.
-fn is_written_again(alloc: Global, bytes: &[u8]) -> Result<bool, EntryFault> {
+fn is_written_again(alloc: Global, bytes: &[u8]) -> Result<bool, Fail> {
     let entry = read_entry(alloc, bytes)?;
     Ok(write_entry(alloc, &entry)?.as_slice() == bytes)
 }
@@ -73,9 +72,6 @@ fn a_byte_more_and_another_kind_are_refused(rt: HostRuntime) -> Result<(), Fail>
         fault_of(rt.alloc(), longer.as_slice()),
         Some(EntryFault::NotCanonical)
     );
-    assert_eq!(rt;
-        fault_of(rt.alloc(), b"\x09"),
-        Some(EntryFault::UnknownKind)
-    );
+    assert_eq!(rt; fault_of(rt.alloc(), b"\0"), Some(EntryFault::UnknownKind));
     Ok(())
 }

@@ -1,6 +1,6 @@
 use thiserror::Error;
 
-/// Why a call on the checkpoints did not do what it was asked to do.
+/// Why no checkpoint was loaded.
 #[derive(Clone, Copy, Debug, PartialEq, Eq, Error)]
 pub enum CheckFault {
     /// A call on the disk failed.

@@ -1,4 +1,4 @@
-ghost use Rattle.std.specs.Prelude.{◌≡◌, ℕ, ◌+◌, ◌≤◌, ◌∷◌, ◌++◌, length, Option, IfErr, IsErr, IsErrOf, OnOk};
+ghost use Rattle.std.specs.Prelude.{◌≡◌, ℕ, ◌+◌, ◌≤◌, ◌∷◌, ◌++◌, length, Option, IsErr, OnOk};
 ghost use Rattle.host_model.specs.Images.{contents, greatest, IsSynced};
 ghost use Rattle.host_model.specs.Past.{of};
 ghost use Rattle.host_model.specs.Disks.{EveryDisk};
@@ -10,17 +10,16 @@ ghost use Rattle.checkpoint.specs.Files.{Slot, new_slot, slot_file, checkpoint_i
 ghost use Rattle.checkpoint.specs.Switching.{IsReplacing};
 
 use crate::closing::close_gate;
-use crate::fault::CheckFault;
 use crate::gate::set_gate;
 use crate::head::{head_bytes, slot_file_of};
 use crate::rest::write_rest;
 use host_model::{Failed, File, Host};
 
 /// Makes a body the checkpoint of this number, which is one above that of the checkpoint that is there,
-/// or 0 where there is none. At `Ok` it is stored and synced. After `DiskFault` each crash leaves the old
+/// or 0 where there is none. At `Ok` it is stored and synced. After an `Err` each crash leaves the old
 /// checkpoint or the new one, as at every moment of the call, and the checkpoint must be loaded before
 /// the next switch.
-pub fn switch<H: Host>(host: &mut H, number: u64, body: &[u8]) -> Result<(), CheckFault>
+pub fn switch<H: Host>(host: &mut H, number: u64, body: &[u8]) -> Result<(), Failed>
     ensures switched { OnOk result
         (H.honest → (old : Option Slot)
         → EveryDisk (λ disk. checkpoint_in disk ≡ old) (H.seen host.old).past
@@ -45,15 +44,12 @@ pub fn switch<H: Host>(host: &mut H, number: u64, body: &[u8]) -> Result<(), Che
     // The images of all other files and the output stay.
     ensures only_here { H.honest
         → OnlyOn (slot_file number) (H.seen host.old).past (H.seen host.new).past }
-    ensures faults { IfErr result (λ fault. fault ≡ CheckFault.DiskFault) }
     ensures cause { HasCause (H.seen host.old).disk_faults (H.seen host.new).disk_faults
-        (IsErrOf result CheckFault.DiskFault) }
+        (IsErr result) }
     ensures output { (H.seen host.new).tell_faults ≡ (H.seen host.old).tell_faults }
 {
     let head = head_bytes(number, body.len() as u64);
-    if replace(host, slot_file_of(number), head, body).is_err() {
-        return Err(CheckFault::DiskFault);
-    }
+    replace(host, slot_file_of(number), head, body)?;
     Ok(())
 }
 

@@ -11,7 +11,7 @@ use Rattle.entry_codec.specs.declared.entry.Entry.TheVariants as entry
 use Rattle.entry_codec.specs.declared.fault.EntryFault.{EntryFault}
 use Rattle.entry_codec.specs.declared.fault.EntryFault.TheVariants.{NotCanonical}
 use Rattle.entry_codec.specs.Entries.{entry_as, entry_bytes, is_canonical, read_entry, read_fields, whole_entry, EntryRead, HasSpelling, IsNoSpelling, IsShort}
-use Rattle.entry_codec.proofs.Fields.{settings_field, collected_field, copied_field, gap_field}
+use Rattle.entry_codec.proofs.Fields.{collected_field, copied_field, gap_field}
 
 abbrev done : Entry × List ℕ → EntryRead
 done read = Ok read
@@ -28,7 +28,6 @@ found_is a b e = cc
 -- a spelling reads as its fields, whatever follows
 fields_again : (e : Entry) (rest : List ℕ) → IsShort e → read_fields (entry_bytes e ++ rest) ≡ Ok (e, rest)
 unfolding read_fields entry_bytes
-fields_again (entry.Settings s) rest fits = rw (settings_field.reads_back s rest fits) refl
 fields_again (entry.Collected c) rest fits = rw (collected_field.reads_back c rest fits) refl
 fields_again (entry.Copied c) rest fits = rw (copied_field.reads_back c rest fits) refl
 fields_again (entry.Health bytes) rest fits = rw (bytes_field.reads_back bytes rest fits) refl
@@ -59,8 +58,7 @@ kind_taken {s = s} {r = r} field make kind bytes e rest short spelt fits is =
 fields_taken : (bytes : List ℕ) (e : Entry) (rest : List ℕ) → IsBytes bytes → read_fields bytes ≡ Ok (e, rest) → IsShort e × (bytes ≡ entry_bytes e ++ rest)
 unfolding read_fields entry_bytes
 fields_taken [] e rest fits is = absurd cc
-fields_taken (zero ∷ bytes) e rest fits is =
-    kind_taken settings_field entry.Settings 0 bytes e rest (λ x short. short) (λ x. refl) (λ place. fits (suc place)) is
+fields_taken (zero ∷ bytes) e rest fits is = absurd cc
 fields_taken (suc zero ∷ bytes) e rest fits is =
     kind_taken collected_field entry.Collected 1 bytes e rest (λ x short. short) (λ x. refl) (λ place. fits (suc place)) is
 fields_taken (suc (suc zero) ∷ bytes) e rest fits is =

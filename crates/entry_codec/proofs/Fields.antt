@@ -1,26 +1,21 @@
 -- The law of each thing that an entry has, made of the laws of its fields.
-use Rattle.std.proofs.Common.{◌≡◌, ℕ, zero, suc, ◌+◌, ◌^◌, ◌<◌, Bool, true, false, List, [], ◌∷◌, ◌++◌, Ok, Err, refl, sym, ap, subst, ◌∙◌, append_assoc, append-nil, arith}
-use Rattle.std.specs.Prelude.{nat_eq, nat_lt}
-use Rattle.std.specs.List.{AllByRecursion}
-use Rattle.std.proofs.lemmas.Bool.{eqb-true, ltb-true}
+use Rattle.std.proofs.Common.{◌≡◌, ℕ, zero, suc, ◌^◌, ◌<◌, Bool, true, false, refl, arith}
+use Rattle.std.specs.Prelude.{nat_lt}
+use Rattle.std.proofs.lemmas.Bool.{ltb-true}
 use Rattle.field_codec.specs.declared.fault.FieldFault.TheVariants.{Range}
 use Rattle.field_codec.specs.Field.{IsField}
-use Rattle.field_codec.specs.Reading.{ReadOf, read_as, read_passing, read_u8, read_u32}
-use Rattle.field_codec.specs.Spelling.{u8_bytes, u32_bytes, u64_bytes}
-use Rattle.field_codec.proofs.Combined.{done, done_is, field_from, same_values, as_field, passing_field, read_as-ok}
+use Rattle.field_codec.specs.Reading.{read_as, read_passing, read_u8}
+use Rattle.field_codec.specs.Spelling.{u8_bytes}
+use Rattle.field_codec.proofs.Combined.{as_field, passing_field}
 use Rattle.field_codec.proofs.Fields.{u8_field, u32_field, u64_field, i32_field, i64_field, flag_field}
 use Rattle.field_codec.proofs.Lists.{◌⊗◌, made_of, list_field, short_text_field}
-use Rattle.tier_settings.specs.declared.settings.Settings.{Settings}
-use Rattle.tier_settings.specs.declared.tier.Tier.{Tier}
-use Rattle.tier_settings.specs.Limits.{HasWidths}
-use Rattle.tier_settings.specs.Settings.{tier_with}
 use Rattle.history.specs.declared.chart.ChartKind.{ChartKind}
 use Rattle.history.specs.declared.chart.ChartKind.TheVariants.{Line, Area, Stacked}
 use Rattle.history.specs.declared.dimension.Algorithm.{Algorithm}
 use Rattle.history.specs.declared.dimension.Algorithm.TheVariants.{Absolute, Incremental, PercentageOfAbsoluteRow, PercentageOfIncrementalRow}
 use Rattle.entry_codec.specs.Charts.{kind_number, kind_of, kind_bytes, read_kind, chart_of, chart_bytes, read_chart, IsChart, copied_chart_of, copied_chart_bytes, read_copied_chart, IsCopiedChart}
 use Rattle.entry_codec.specs.Dimensions.{algorithm_number, algorithm_of, algorithm_bytes, read_algorithm, marks_number, marks_of, marks_bytes, read_marks, dimension_of, dimension_bytes, read_dimension, IsDimension, copied_dimension_of, copied_dimension_bytes, read_copied_dimension, IsCopiedDimension}
-use Rattle.entry_codec.specs.Entries.{tier_bytes, read_quota, IsTier, read_version, settings_with, settings_bytes, read_settings, IsSettings, collected_of, collected_bytes, read_collected, IsCollected, copied_of, copied_bytes, read_copied, IsCopied, gap_of, gap_bytes, read_gap, IsGap}
+use Rattle.entry_codec.specs.Entries.{collected_of, collected_bytes, read_collected, IsCollected, copied_of, copied_bytes, read_copied, IsCopied, gap_of, gap_bytes, read_gap, IsGap}
 use Rattle.entry_codec.specs.Rows.{value_of, value_bytes, read_value, IsValue, row_of, row_bytes, read_row, IsRow}
 use Rattle.entry_codec.specs.Words.{word_of, word_bytes, read_word, IsCopiedWord}
 
@@ -119,10 +114,6 @@ marks_field = byte_as 4 marks_of marks_number there small below back
     back (false, true) = refl
     back (true, true) = refl
 
-pub version_field : IsField (λ version. (version < 2 ^ 8) × (nat_eq version 1 ≡ true)) u8_bytes read_version
-unfolding read_version
-version_field = passing_field (λ n. n < 2 ^ 8) u8_bytes read_u8 (λ version. nat_eq version 1) Range u8_field
-
 -- ---- what an entry has
 
 pub value_field : IsField IsValue value_bytes read_value
@@ -173,83 +164,6 @@ copied_dimension_field =
     made_of IsCopiedDimension copied_dimension_of (λ c. (((c.series, c.chart), c.id), c.hidden)) (u32_field ⊗ u32_field ⊗ short_text_field ⊗ flag_field)
     (λ x fits. (record { series = fits.0.0.0; chart = fits.0.0.1; id = fits.0.1 }, refl))
     (λ c fits. ((((fits.series, fits.chart), fits.id), tt), refl))
-
-pub quota_field : IsField (λ (quota : ℕ × ℕ). (quota.0 < 2 ^ 32) × (quota.1 < 2 ^ 32)) (λ (quota : ℕ × ℕ). u32_bytes quota.0 ++ u32_bytes quota.1) read_quota
-unfolding read_quota
-quota_field = u32_field ⊗ u32_field
-
-abbrev quota_of : Tier → ℕ × ℕ
-quota_of tier = (tier.items, tier.extents)
-
--- settings as the fields that are spelt of them
-abbrev parts_of : Settings → (((ℕ × ℕ) × (ℕ × ℕ)) × (ℕ × ℕ)) × (ℕ × ℕ)
-parts_of s = ((((1, s.id), quota_of (tier_with s 0)), quota_of (tier_with s 1)), quota_of (tier_with s 2))
-
-abbrev parts_bytes : (((ℕ × ℕ) × (ℕ × ℕ)) × (ℕ × ℕ)) × (ℕ × ℕ) → List ℕ
-parts_bytes ((((version, id), first), second), third) =
-    u8_bytes version ++ u64_bytes id ++ (u32_bytes first.0 ++ u32_bytes first.1) ++ (u32_bytes second.0 ++ u32_bytes second.1) ++ (u32_bytes third.0 ++ u32_bytes third.1)
-
--- what is known of the parts of settings that have a spelling
-record HasParts (s : Settings) : Type 0 where
-  first : IsTier (tier_with s 0)
-  second : IsTier (tier_with s 1)
-  third : IsTier (tier_with s 2)
-  again : settings_with (parts_of s) ≡ s
-  spelt : parts_bytes (parts_of s) ≡ settings_bytes s
-
-has_parts : (id : ℕ) (tiers : List Tier) → HasWidths tiers → AllByRecursion IsTier tiers → HasParts (record { id = id; tiers = tiers })
-unfolding settings_bytes tier_bytes
-has_parts id [] widths are = absurd cc
-has_parts id (a ∷ []) widths are = absurd cc
-has_parts id (a ∷ b ∷ []) widths are = absurd cc
-has_parts id (a ∷ b ∷ c ∷ []) widths are =
-    let of_a : 1 ≡ a.width = cc in
-    let of_b : 60 ≡ b.width = cc in
-    let of_c : 3600 ≡ c.width = cc in
-    record {
-      first = are.0;
-      second = are.1.0;
-      third = are.1.1.0;
-      again =
-          ap (λ (n : ℕ). settings id (record a { width = n }) (record b { width = 60 }) (record c { width = 3600 })) of_a
-          ∙ ap (λ (n : ℕ). settings id a (record b { width = n }) (record c { width = 3600 })) of_b
-          ∙ ap (λ (n : ℕ). settings id a b (record c { width = n })) of_c;
-      spelt = simp (append_assoc, append-nil);
-    }
-  where
-    settings : ℕ → Tier → Tier → Tier → Settings
-    settings id a b c = record { id = id; tiers = a ∷ b ∷ c ∷ [] }
-has_parts id (a ∷ b ∷ c ∷ d ∷ tiers) widths are = absurd cc
-
-parts_field : IsField IsSettings (λ s. parts_bytes (parts_of s)) read_settings
-unfolding read_settings
-parts_field =
-    made_of IsSettings settings_with parts_of (version_field ⊗ u64_field ⊗ quota_field ⊗ quota_field ⊗ quota_field)
-    (λ x fits. (
-      record {
-        id = fits.0.0.0.1;
-        widths = refl;
-        tiers = (record { items = fits.0.0.1.0; extents = fits.0.0.1.1 }, (record { items = fits.0.1.0; extents = fits.0.1.1 }, (record { items = fits.1.0; extents = fits.1.1 }, tt)));
-      },
-      (let one = eqb-true x.0.0.0.0 1 fits.0.0.0.0.1 in rw one refl),
-    ))
-    (λ s fits.
-    let parts = has_parts s.id s.tiers fits.widths fits.tiers in (
-      ((((((omega arith, refl), fits.id), (parts.first.items, parts.first.extents)), (parts.second.items, parts.second.extents)), (parts.third.items, parts.third.extents))),
-      parts.again,
-    ))
-
--- the same spelling, said otherwise
-same_spelling : {X : Type 0} {V : X → Type 0} {s : X → List ℕ} {r : List ℕ → ReadOf X} (t : X → List ℕ) → ((x : X) → V x → s x ≡ t x) → IsField V s r → IsField V t r
-same_spelling {V = V} {r = r} t same field =
-    field_from V t r
-    (λ x rest fits. ap (λ (bytes : List ℕ). r (bytes ++ rest)) (sym (same x fits)) ∙ field.reads_back x rest fits)
-    (λ bytes x rest fits e.
-    let has = field.has_spelling bytes x rest fits e in
-    (has, field.is_spelt bytes x rest fits e ∙ ap (λ (spelt : List ℕ). spelt ++ rest) (same x has)))
-
-pub settings_field : IsField IsSettings settings_bytes read_settings
-settings_field = same_spelling settings_bytes (λ s fits. (has_parts s.id s.tiers fits.widths fits.tiers).spelt) parts_field
 
 pub collected_field : IsField IsCollected collected_bytes read_collected
 unfolding collected_bytes read_collected

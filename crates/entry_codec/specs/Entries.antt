@@ -1,16 +1,12 @@
 -- Entries: the one spelling of each, which of them have one, and what bytes read as.
 use Rattle.std.specs.Prelude.{◌≡◌, ◌≢◌, ℕ, zero, suc, ◌<◌, ◌≤◌, ◌^◌, Bool, true, ◌&&◌, ◌==◌, List, [], ◌∷◌, ◌++◌, length, map, All, Result, Ok, Err, if◌then◌else◌}
-use Rattle.std.specs.List.{flat_map, list_all, sum_by, AllByRecursion}
+use Rattle.std.specs.List.{list_all, sum_by}
 use Rattle.storage_number.specs.Word.{is_word}
-use Rattle.tier_settings.specs.declared.settings.Settings.{Settings}
-use Rattle.tier_settings.specs.declared.tier.Tier.{Tier}
-use Rattle.tier_settings.specs.Limits.{HasWidths}
-use Rattle.tier_settings.specs.Settings.{settings_of}
 use Rattle.field_codec.specs.declared.fault.FieldFault.{FieldFault}
 use Rattle.field_codec.specs.declared.fault.FieldFault.TheVariants as fields
 use Rattle.field_codec.specs.Lists.{◌>>◌, read_list, IsShortListOf}
-use Rattle.field_codec.specs.Reading.{ReadOf, read_as, read_passing, read_u8, read_u32, read_u64, read_bytes}
-use Rattle.field_codec.specs.Spelling.{u8_bytes, u32_bytes, u64_bytes, sized_bytes, list_bytes}
+use Rattle.field_codec.specs.Reading.{ReadOf, read_as, read_u32, read_u64, read_bytes}
+use Rattle.field_codec.specs.Spelling.{u32_bytes, u64_bytes, sized_bytes, list_bytes}
 use Rattle.entry_codec.specs.declared.charts.CopiedChart.{CopiedChart}
 use Rattle.history.specs.declared.numbered.NumberedChart.{NumberedChart}
 use Rattle.entry_codec.specs.declared.dimensions.CopiedDimension.{CopiedDimension}
@@ -32,39 +28,6 @@ use Rattle.entry_codec.specs.Dimensions.{copied_dimension_bytes, dimension_bytes
 use Rattle.entry_codec.specs.Lists.{is_ascending}
 use Rattle.entry_codec.specs.Rows.{read_row, row_bytes, IsRow, IsShortRow}
 use Rattle.entry_codec.specs.Words.{read_word, word_bytes, IsCopiedWord, IsShortWord}
-
--- ---- settings
-
--- the items and extents of a tier
-unfoldable pub read_quota : List ℕ → ReadOf (ℕ × ℕ)
-read_quota bytes = read_u32 bytes >> read_u32
-
--- the width of a tier is not spelt: it follows from its place
-unfoldable pub tier_bytes : Tier → List ℕ
-tier_bytes t = u32_bytes t.items ++ u32_bytes t.extents
-
-pub record IsTier (t : Tier) : Type 0 where
-  pub items : t.items < 2 ^ 32
-  pub extents : t.extents < 2 ^ 32
-
--- the version of settings, which is 1
-unfoldable pub read_version : List ℕ → ReadOf ℕ
-read_version bytes = read_passing (λ version. version == 1) fields.Range (read_u8 bytes)
-
-abbrev pub settings_with : (((ℕ × ℕ) × (ℕ × ℕ)) × (ℕ × ℕ)) × (ℕ × ℕ) → Settings
-settings_with ((((_, id), first), second), third) = settings_of id (first ∷ second ∷ third ∷ [])
-
--- the version, the id, and the items and extents of three tiers
-unfoldable pub read_settings : List ℕ → ReadOf Settings
-read_settings bytes = read_as settings_with (read_version bytes >> read_u64 >> read_quota >> read_quota >> read_quota)
-
-unfoldable pub settings_bytes : Settings → List ℕ
-settings_bytes s = u8_bytes 1 ++ u64_bytes s.id ++ flat_map tier_bytes s.tiers
-
-pub record IsSettings (s : Settings) : Type 0 where
-  pub id : s.id < 2 ^ 64
-  pub widths : HasWidths s.tiers
-  pub tiers : AllByRecursion IsTier s.tiers
 
 -- ---- a collected beat
 
@@ -170,7 +133,6 @@ pub record IsGap (g : Gap) : Type 0 where
 
 -- the byte of the kind, and the fields
 unfoldable pub entry_bytes : Entry → List ℕ
-entry_bytes (entry.Settings s) = 0 ∷ settings_bytes s
 entry_bytes (entry.Collected c) = 1 ∷ collected_bytes c
 entry_bytes (entry.Copied c) = 2 ∷ copied_bytes c
 entry_bytes (entry.Health bytes) = 3 ∷ sized_bytes bytes
@@ -178,14 +140,12 @@ entry_bytes (entry.Gap g) = 4 ∷ gap_bytes g
 
 -- its texts, lists and numbers are as short as their spelling allows
 abbrev pub IsShort : Entry → Type 0
-IsShort (entry.Settings s) = IsSettings s
 IsShort (entry.Collected c) = IsCollected c
 IsShort (entry.Copied c) = IsCopied c
 IsShort (entry.Health bytes) = length bytes < 2 ^ 32
 IsShort (entry.Gap g) = IsGap g
 
 unfoldable pub is_canonical : Entry → Bool
-is_canonical (entry.Settings s) = true
 is_canonical (entry.Collected c) = is_collected_canonical c
 is_canonical (entry.Copied c) = is_copied_canonical c
 is_canonical (entry.Health bytes) = true
@@ -213,7 +173,7 @@ entry_as make (Err fault) = Err (entry_fault fault)
 
 -- the fields of a kind
 abbrev pub read_kind_fields : ℕ → List ℕ → EntryRead
-read_kind_fields zero rest = entry_as entry.Settings (read_settings rest)
+read_kind_fields zero rest = Err faults.UnknownKind
 read_kind_fields (suc zero) rest = entry_as entry.Collected (read_collected rest)
 read_kind_fields (suc (suc zero)) rest = entry_as entry.Copied (read_copied rest)
 read_kind_fields (suc (suc (suc zero))) rest = entry_as entry.Health (read_bytes rest)

@@ -62,6 +62,6 @@ pub(crate) fn is_canonical(entry: &Entry) -> bool
     match entry {
         Entry::Collected(collected) => is_collected(collected),
         Entry::Copied(copied) => is_copied(copied),
-        Entry::Settings(_) | Entry::Health(_) | Entry::Gap(_) => true,
+        Entry::Health(_) | Entry::Gap(_) => true,
     }
 }

@@ -3,7 +3,6 @@ use crate::dimensions::CopiedDimensionList;
 use crate::words::CopiedWordList;
 use field_codec::ByteList;
 use history::NumberedBeat;
-use tier_settings::Settings;
 
 /// The most bytes of the entry of a numbered beat that keeps to the limits of a registry.
 pub const COLLECTED_LIMIT: usize = 33_579_025;
@@ -32,7 +31,6 @@ pub struct Gap {
 /// What a journal keeps, one after the other.
 #[derive(Debug, Drop)]
 pub enum Entry {
-    Settings(Settings),
     /// A beat that collectors told.
     Collected(NumberedBeat),
     Copied(Copied),

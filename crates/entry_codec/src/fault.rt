@@ -7,7 +7,7 @@ pub enum EntryFault {
     /// The bytes end inside a field.
     #[error("the entry ends inside a field")]
     Short,
-    /// A flag, an enumerated byte or the version is out of range.
+    /// A flag or an enumerated byte is out of range.
     #[error("a byte of the entry is out of range")]
     Range,
     /// A text is not UTF-8.

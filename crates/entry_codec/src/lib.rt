@@ -1,11 +1,9 @@
 //! Entries as bytes: what a journal keeps, one after the other.
 //!
-//! An `Entry` is the settings of a database, a beat that was collected or copied, the state of
-//! alarms, or a gap in what was copied. Its spelling is a kind byte and its fields, and nothing
-//! follows. A list is its count and its items, in the order of their numbers, each number once, and
-//! the words of a copied beat are storage numbers: an entry of another form has no spelling. Of
-//! settings the id is spelt, and how much each tier keeps: those with tiers of other widths than a
-//! database has have no spelling.
+//! An `Entry` is a beat that was collected or copied, the text of a configuration, or a gap in what
+//! was copied. Its spelling is a kind byte and its fields, and nothing follows. A list is its count
+//! and its items, in the order of their numbers, each number once, and the words of a copied beat
+//! are storage numbers: an entry of another form has no spelling.
 //!
 //! What is written is the spelling, and what is read of bytes has them as its spelling: so an entry
 //! has one spelling, two never share one, and what was written is read again. Bytes that are no
@@ -13,8 +11,8 @@
 //! `NotCanonical`. A list grows with the items that are read, so that a count takes no memory by
 //! itself.
 //!
-//! It stands on `field_codec` for the fields and lists, on the definitions of `history`, on `tier_settings`
-//! for the settings, and on `storage_number` for which words are storage numbers.
+//! It stands on `field_codec` for the fields and lists, on the definitions of `history`, and on
+//! `storage_number` for which words are storage numbers.
 #![tactic(auto)]
 
 mod canonical;
@@ -40,4 +38,4 @@ pub use format::EntryFormat;
 pub use law::{entries_round_trip, entry_length_is_limited};
 pub use reading::read_entry;
 pub use words::{CopiedWord, CopiedWordList};
-pub use writing::{has_spelling, write_collected, write_entry};
+pub use writing::{write_collected, write_entry};

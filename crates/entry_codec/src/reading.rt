@@ -1,7 +1,7 @@
-ghost use Rattle.std.specs.Prelude.{◌≡◌, ℕ, ◌⊎◌, Ok, Err, IfOk, IfErr};
+ghost use Rattle.std.specs.Prelude.{◌≡◌, ◌⊎◌, Ok, Err, IfOk, IfErr};
 ghost use Rattle.field_codec.specs.Lists.{IsRefusal};
 ghost use Rattle.field_codec.specs.Reading.{read_bytes};
-ghost use Rattle.entry_codec.specs.Entries.{entry_bytes, read_collected, read_copied, read_entry, read_fields, read_gap, read_kind_fields, read_quota, read_settings, read_version, HasSpelling, IsNoSpelling};
+ghost use Rattle.entry_codec.specs.Entries.{entry_bytes, read_collected, read_copied, read_entry, read_fields, read_gap, read_kind_fields, HasSpelling, IsNoSpelling};
 
 use crate::canonical;
 use crate::entry::{Copied, Entry, Gap};
@@ -9,43 +9,6 @@ use crate::fault::EntryFault;
 use field_codec::{ByteList, FieldFault, Reader, list};
 use history::NumberedBeat;
 use std::alloc::Global;
-use tier_settings::Settings;
-
-/// The items and extents of a tier.
-#[tactic(auto, unfolding(crate::specs::Entries::read_quota))]
-fn take_quota(reader: &mut Reader<'_>) -> Result<(u32, u32), FieldFault>
-    ensures taken { IfOk result (λ quota. read_quota reader.old ≡ Ok (quota, reader.new)) }
-    ensures fault { IfErr result (λ fault. read_quota reader.old ≡ Err fault) }
-{
-    let items = reader.take_u32()?;
-    let extents = reader.take_u32()?;
-    Ok((items, extents))
-}
-
-#[tactic(auto, unfolding(crate::specs::Entries::read_version))]
-fn take_version(reader: &mut Reader<'_>) -> Result<(), FieldFault>
-    ensures taken { IfOk result (λ _. read_version reader.old ≡ Ok (1, reader.new)) }
-    ensures fault { IfErr result (λ fault. read_version reader.old ≡ Err fault) }
-{
-    if reader.take_u8()? == 1 {
-        Ok(())
-    } else {
-        Err(FieldFault::Range)
-    }
-}
-
-#[tactic(auto, unfolding(crate::specs::Entries::read_settings))]
-fn take_settings(alloc: Global, reader: &mut Reader<'_>) -> Result<Settings, FieldFault>
-    ensures taken { IfOk result (λ settings. read_settings reader.old ≡ Ok (settings, reader.new)) }
-    ensures fault { IfErr result (IsRefusal (read_settings reader.old)) }
-{
-    take_version(reader)?;
-    let id = reader.take_u64()?;
-    let first = take_quota(reader)?;
-    let second = take_quota(reader)?;
-    let third = take_quota(reader)?;
-    Ok(Settings::new(alloc, id, [first, second, third])?)
-}
 
 #[tactic(auto, unfolding(crate::specs::Entries::read_collected))]
 fn take_collected(alloc: Global, reader: &mut Reader<'_>) -> Result<NumberedBeat, FieldFault>
@@ -113,7 +76,6 @@ fn take_kind(alloc: Global, kind: u8, reader: &mut Reader<'_>) -> Result<Entry, 
         (λ fault. (fault ≡ EntryFault.Memory) ⊎ (read_kind_fields kind reader.old ≡ Err fault)) }
 {
     match kind {
-        0 => Ok(Entry::Settings(take_settings(alloc, reader)?)),
         1 => Ok(Entry::Collected(take_collected(alloc, reader)?)),
         2 => Ok(Entry::Copied(take_copied(alloc, reader)?)),
         3 => Ok(Entry::Health(take_health(alloc, reader)?)),

@@ -1,44 +1,11 @@
-ghost use Rattle.std.specs.Prelude.{◌≡◌, ◌<◌, ◌^◌, ◌++◌, ◌↔◌, true, length, Ok, Err, IsTrue, IfOk, OnOk, IsOkUnless};
-ghost use Rattle.std.specs.List.{flat_map};
-ghost use Rattle.entry_codec.specs.Entries.{collected_bytes, copied_bytes, entry_bytes, gap_bytes, is_collected_canonical, read_entry, settings_bytes, tier_bytes, HasSpelling, IsCollected, IsCopied, IsGap, IsSettings, IsShort, IsShortCollected, IsShortCopied, IsTier, IsWithinLimits};
+ghost use Rattle.std.specs.Prelude.{◌≡◌, ◌<◌, ◌++◌, true, Ok, Err, IfOk, OnOk, IsOkUnless};
+ghost use Rattle.entry_codec.specs.Entries.{collected_bytes, copied_bytes, entry_bytes, gap_bytes, is_collected_canonical, read_entry, HasSpelling, IsCollected, IsShort, IsShortCollected, IsShortCopied, IsWithinLimits};
 ghost use Rattle.entry_codec.specs.declared.entry.Entry.TheVariants as entry;
 
-use crate::canonical;
-use crate::entry::{Copied, Entry, Gap, HEALTH_LIMIT};
-use crate::fault::EntryFault;
+use crate::entry::{Copied, Entry, Gap};
 use field_codec::{ByteList, FieldFault, Writer, list};
 use history::NumberedBeat;
 use std::alloc::{AllocError, Global};
-use tier_settings::{Settings, Tier, has_widths};
-
-#[tactic(auto, unfolding(crate::specs::Entries::tier_bytes))]
-fn put_tier(tier: &Tier, writer: &mut Writer) -> Result<(), FieldFault>
-    ensures put { OnOk result (writer.new ≡ writer.old ++ tier_bytes tier.now) }
-    ensures memory { IsOkUnless result FieldFault.Memory }
-{
-    writer.put_u32(tier.items)?;
-    writer.put_u32(tier.extents)
-}
-
-fn put_tiers(tiers: &[Tier], writer: &mut Writer) -> Result<(), FieldFault>
-    ensures put { OnOk result (writer.new ≡ writer.old ++ flat_map tier_bytes tiers.now) }
-    ensures memory { IsOkUnless result FieldFault.Memory }
-{
-    for tier in tiers {
-        put_tier(tier, writer)?;
-    }
-    Ok(())
-}
-
-#[tactic(auto, unfolding(crate::specs::Entries::settings_bytes))]
-fn put_settings(settings: &Settings, writer: &mut Writer) -> Result<(), FieldFault>
-    ensures put { OnOk result (writer.new ≡ writer.old ++ settings_bytes settings.now) }
-    ensures memory { IsOkUnless result FieldFault.Memory }
-{
-    writer.put_u8(1)?;
-    writer.put_u64(settings.id)?;
-    put_tiers(settings.tiers.as_slice(), writer)
-}
 
 #[tactic(auto, unfolding(crate::specs::Entries::collected_bytes))]
 fn put_collected(collected: &NumberedBeat, writer: &mut Writer) -> Result<(), FieldFault>
@@ -83,10 +50,6 @@ fn put_entry(entry: &Entry, writer: &mut Writer) -> Result<(), FieldFault>
     ensures memory { IsOkUnless result FieldFault.Memory }
 {
     match entry {
-        Entry::Settings(settings) => {
-            writer.put_u8(0)?;
-            put_settings(settings, writer)
-        }
         Entry::Collected(collected) => {
             writer.put_u8(1)?;
             put_collected(collected, writer)
@@ -104,75 +67,6 @@ fn put_entry(entry: &Entry, writer: &mut Writer) -> Result<(), FieldFault>
             put_gap(gap, writer)
         }
     }
-}
-
-// Below, a number that is read is known to be in the range of its type.
-
-fn know(tier: &Tier)
-    ensures { IsTier tier.now }
-{
-    let (_items, _extents) = (tier.items, tier.extents);
-}
-
-fn is_settings(settings: &Settings) -> bool
-    ensures { IsTrue result ↔ IsSettings settings.now }
-{
-    let _id = settings.id;
-    let tiers = settings.tiers.as_slice();
-    let [second, minute, hour] = tiers else {
-        return false;
-    };
-    know(second);
-    know(minute);
-    know(hour);
-    has_widths(tiers)
-}
-
-fn is_collected(collected: &NumberedBeat) -> bool
-    ensures { IsTrue result ↔ IsCollected collected.now }
-{
-    let _moment = collected.moment;
-    list::is_short_list(&collected.charts)
-        && list::is_short_list(&collected.dimensions)
-        && list::is_short_list(&collected.rows)
-}
-
-fn is_copied(copied: &Copied) -> bool
-    ensures { IsTrue result ↔ IsCopied copied.now }
-{
-    let (_child, _moment) = (copied.child, copied.moment);
-    list::is_short_list(&copied.charts)
-        && list::is_short_list(&copied.dimensions)
-        && list::is_short_list(&copied.words)
-}
-
-fn is_gap(gap: &Gap) -> bool
-    ensures { IsTrue result ↔ IsGap gap.now }
-{
-    let (_child, _from, _to) = (gap.child, gap.from, gap.to);
-    true
-}
-
-fn is_short(entry: &Entry) -> bool
-    ensures { IsTrue result ↔ IsShort entry.now }
-{
-    match entry {
-        Entry::Settings(settings) => is_settings(settings),
-        Entry::Collected(collected) => is_collected(collected),
-        Entry::Copied(copied) => is_copied(copied),
-        Entry::Health(bytes) => bytes.len() <= HEALTH_LIMIT,
-        Entry::Gap(gap) => is_gap(gap),
-    }
-}
-
-/// Whether an entry has a spelling: its lists are in the order of their numbers, each number once,
-/// its words are storage numbers, no text is longer than 65,535 bytes, no list and no bytes are
-/// longer than a u32 counts, and the tiers of settings have the widths that those of a database
-/// have.
-pub fn has_spelling(entry: &Entry) -> bool
-    ensures { IsTrue result ↔ HasSpelling entry.now }
-{
-    is_short(entry) && canonical::is_canonical(entry)
 }
 
 fn write_short(alloc: Global, entry: &Entry) -> Result<ByteList, FieldFault>
@@ -214,16 +108,17 @@ pub fn write_collected(alloc: Global, beat: &NumberedBeat) -> Result<ByteList, A
     }
 }
 
-/// The one spelling of an entry. `NotCanonical` where it has none.
-pub fn write_entry(alloc: Global, entry: &Entry) -> Result<ByteList, EntryFault>
+/// The one spelling of an entry that has one: its lists are in the order of their numbers, each
+/// number once, its words are storage numbers, no text is longer than 65,535 bytes, and no list and
+/// no bytes are longer than a u32 counts.
+#[tactic(auto, using(crate::proofs::EntriesLaw::reads_back))]
+pub fn write_entry(alloc: Global, entry: &Entry) -> Result<ByteList, AllocError>
+    requires { HasSpelling entry.now }
     ensures spelling { IfOk result (λ bytes. bytes ≡ entry_bytes entry.now) }
-    ensures written { OnOk result (HasSpelling entry.now) }
     ensures reads_back { IfOk result (λ bytes. read_entry bytes ≡ Ok entry.now) }
-    ensures refused { (result ≡ Err EntryFault.NotCanonical) ↔ (¬ (HasSpelling entry.now)) }
-    ensures memory { HasSpelling entry.now → IsOkUnless result EntryFault.Memory }
 {
-    if !has_spelling(entry) {
-        return Err(EntryFault::NotCanonical);
+    match write_short(alloc, entry) {
+        Ok(bytes) => Ok(bytes),
+        Err(_) => Err(AllocError),
     }
-    Ok(write_short(alloc, entry)?)
 }

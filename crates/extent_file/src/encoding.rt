@@ -6,7 +6,6 @@ ghost use Rattle.extent_file.specs.Writing.{entry_bytes, directory_bytes, head_b
 ghost use Rattle.extent_file.specs.declared.sizes.TheConstants.{SLOT_LIMIT};
 
 use crate::entry::Entry;
-use crate::fault::ExtentFault;
 use crate::head::MARK;
 use crate::page::Page;
 use crate::sizes::{ENTRY_SIZE, HEAD_SIZE};
@@ -98,24 +97,23 @@ pub(crate) fn encode(
     tier: u32,
     slot: u64,
     pages: &[Page],
-) -> Result<ByteList, ExtentFault>
+) -> Result<ByteList, AllocError>
     requires pages { ArePages tier (at_first (length pages.now)) pages.now }
     requires fits { extent_size tier pages.now ≤ slot }
     requires slot { slot ≤ SLOT_LIMIT }
     ensures extent { IfOk result (λ bytes. (more : List ℕ)
         → IsExtentOf tier slot pages.now (bytes ++ more)) }
     ensures size { IfOk result (λ bytes. length bytes ≡ extent_size tier pages.now) }
-    ensures refused { IfErr result (λ fault. fault ≡ ExtentFault.Memory) }
 {
     let mut items = ByteList::new(alloc);
     if append_items(&mut items, pages).is_err() {
-        return Err(ExtentFault::Memory);
+        return Err(AllocError);
     }
     let first = HEAD_SIZE as u64 + ENTRY_SIZE as u64 * pages.len() as u64;
     let size = first + items.len() as u64;
     let mut out = ByteList::new(alloc);
     if append_all(&mut out, tier, first, size, pages, items.as_slice()).is_err() {
-        return Err(ExtentFault::Memory);
+        return Err(AllocError);
     }
     Ok(out)
 }

@@ -1,6 +1,10 @@
+ghost use Rattle.std.specs.Prelude.{◌≡◌};
+ghost use Rattle.extent_file.specs.declared.fault.WriteFault.TheVariants.{Memory};
+
+use std::alloc::AllocError;
 use thiserror::Error;
 
-/// Why a call on an extent did not do what it was asked to do.
+/// Why an extent was not opened, or a page of it not read.
 #[derive(Clone, Copy, Debug, PartialEq, Eq, Error)]
 pub enum ExtentFault {
     /// A call on the disk failed.
@@ -12,4 +16,23 @@ pub enum ExtentFault {
     /// There was no memory.
     #[error("out of memory")]
     Memory,
+}
+
+/// Why an extent was not written.
+#[derive(Clone, Copy, Debug, PartialEq, Eq, Error)]
+pub enum WriteFault {
+    /// A call on the disk failed.
+    #[error("the disk failed")]
+    DiskFault,
+    /// There was no memory.
+    #[error("out of memory")]
+    Memory,
+}
+
+impl From<AllocError> for WriteFault {
+    ghost from_gives = { λ _ fault. fault ≡ Memory };
+
+    fn from(_error: AllocError) -> WriteFault {
+        WriteFault::Memory
+    }
 }

@@ -28,7 +28,7 @@ mod sizes;
 mod writing;
 
 pub use extent::Extent;
-pub use fault::ExtentFault;
+pub use fault::{ExtentFault, WriteFault};
 pub use law::bytes_say_one_extent;
 pub use page::{Page, PageList};
 pub use sizes::{MOST_ENTRIES, PLACE_LIMIT, SLOT_LIMIT, START_LIMIT, size_of};

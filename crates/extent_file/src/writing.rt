@@ -10,7 +10,7 @@ ghost use Rattle.extent_file.specs.Pages.{ArePages, IsExtentOf, extent_size};
 ghost use Rattle.extent_file.specs.Writing.{LiesAt, KeepsAll, KeepsBeside, filled_to};
 
 use crate::encoding::encode;
-use crate::fault::ExtentFault;
+use crate::fault::WriteFault;
 use crate::page::PageList;
 use crate::sizes::{slot_size, slot_start, tier_of};
 use host_model::{Failed, File, Host};
@@ -134,7 +134,7 @@ pub fn write_extent<H: Host>(
     items: u32,
     slot: u32,
     pages: &PageList,
-) -> Result<u64, ExtentFault>
+) -> Result<u64, WriteFault>
     requires tier { IsTierFile file }
     requires items { items ≤ MOST_ITEMS }
     requires slot { slot ≤ MOST_EXTENTS }
@@ -172,18 +172,17 @@ pub fn write_extent<H: Host>(
 
     // The images of all other files and the output stay.
     ensures only_here { H.honest → OnlyOn file (H.seen host.old).past (H.seen host.new).past }
-    ensures memory { IsErrOf result ExtentFault.Memory → H.honest
+    ensures memory { IsErrOf result WriteFault.Memory → H.honest
         → (H.seen host.new).past ≡ (H.seen host.old).past }
-    ensures not_bad { (place : ℕ) → IsErrOf result (ExtentFault.BadExtent place) → ⊥ }
     ensures cause { HasCause (H.seen host.old).disk_faults (H.seen host.new).disk_faults
-        (IsErrOf result ExtentFault.DiskFault) }
+        (IsErrOf result WriteFault.DiskFault) }
     ensures output { (H.seen host.new).tell_faults ≡ (H.seen host.old).tell_faults }
 {
     let tier = tier_of(file);
     let bytes = encode(alloc, tier, slot_size(tier, items), pages.as_slice())?;
     let start = slot_start(tier, items, slot);
     if put(host, file, start, bytes.as_slice()).is_err() {
-        return Err(ExtentFault::DiskFault);
+        return Err(WriteFault::DiskFault);
     }
     Ok(bytes.len() as u64)
 }

@@ -1,7 +1,7 @@
 use crate::journal::RECORD_LIMIT;
 use thiserror::Error;
 
-/// Why a journal was not prepared or opened.
+/// Why a journal was not opened.
 #[derive(Clone, Copy, Debug, PartialEq, Eq, Error)]
 pub enum JournalFault {
     /// A call on the disk failed.

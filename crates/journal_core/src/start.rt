@@ -1,4 +1,4 @@
-ghost use Rattle.std.specs.Prelude.{◌≡◌, ℕ, ◌≤◌, [], ◌∷◌, ◌++◌, length, IfErr, IsErr, IsErrOf, OnOk};
+ghost use Rattle.std.specs.Prelude.{◌≡◌, ℕ, ◌≤◌, [], ◌∷◌, ◌++◌, length, IsErr, OnOk};
 ghost use Rattle.host_model.specs.Images.{contents, greatest, IsSynced};
 ghost use Rattle.host_model.specs.Past.{of};
 ghost use Rattle.host_model.specs.Cause.{HasCause};
@@ -6,12 +6,11 @@ ghost use Rattle.host_model.specs.Moments.{Throughout, EveryImage, OnlyOn};
 ghost use Rattle.journal_core.specs.Form.{header, StandsFor};
 ghost use Rattle.journal_core.specs.declared.journal.TheConstants.{EMPTY_SIZE};
 
-use crate::fault::JournalFault;
 use crate::form::header_of;
 use host_model::{Failed, File, Host};
 
 /// Makes a file an empty journal of this generation, whatever it held, and syncs it.
-pub fn prepare<H: Host>(host: &mut H, file: File, generation: u64) -> Result<(), JournalFault>
+pub fn prepare<H: Host>(host: &mut H, file: File, generation: u64) -> Result<(), Failed>
     ensures empty { OnOk result
         (H.honest → StandsFor generation (contents (of file (H.seen host.new).past)) []) }
     ensures whole { OnOk result
@@ -34,16 +33,12 @@ pub fn prepare<H: Host>(host: &mut H, file: File, generation: u64) -> Result<(),
         → greatest (of file (H.seen host.old).past) ≤ size
         → Throughout (λ past. greatest (of file past) ≤ size) (H.seen host.old).past
         (H.seen host.new).past }
-    ensures faults { IfErr result (λ fault. fault ≡ JournalFault.DiskFault) }
     ensures cause { HasCause (H.seen host.old).disk_faults (H.seen host.new).disk_faults
-        (IsErrOf result JournalFault.DiskFault) }
+        (IsErr result) }
     ensures output { (H.seen host.new).tell_faults ≡ (H.seen host.old).tell_faults }
     ensures reads { (H.seen host.new).reads ≡ (H.seen host.old).reads }
 {
-    if put_down(host, file, header_of(generation)).is_err() {
-        return Err(JournalFault::DiskFault);
-    }
-    Ok(())
+    put_down(host, file, header_of(generation))
 }
 
 /// Leaves a header and a closed gate in a file, and nothing else, and syncs it.

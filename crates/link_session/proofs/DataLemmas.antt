@@ -129,10 +129,7 @@ module _ (honest : Type 0) (host : Seen) (agent : AgentState) (message : Data) (
     agents-receiving (agent_fault.Refused why) reopens refused = tt
     agents-receiving (agent_fault.Health why) reopens refused = refused reopens
     agents-receiving agent_fault.DiskFault reopens refused = tt
-    agents-receiving agent_fault.NotADatabase reopens refused = refused reopens
-    agents-receiving (agent_fault.Damaged part) reopens refused = refused reopens
     agents-receiving (agent_fault.Reopen cause) reopens refused = tt
-    agents-receiving agent_fault.Exists reopens refused = refused reopens
     agents-receiving agent_fault.Memory reopens refused = tt
 
     inside : (other : AgentFault) → failed fault ≡ failed other → fault ≡ other
@@ -214,10 +211,7 @@ module _ (honest : Type 0) (host : Seen) (agent : AgentState) (message : Data) (
       badly-copies (agent_fault.Refused why) refused reopens unchanged spent = let same = unchanged tt in refused-copies why refused same.0 same.1
       badly-copies (agent_fault.Health why) refused reopens unchanged spent = absurd refused
       badly-copies agent_fault.DiskFault refused reopens unchanged spent = failed-copies agent_fault.DiskFault spent_for.Disk spent refused refl tt
-      badly-copies agent_fault.NotADatabase refused reopens unchanged spent = absurd refused
-      badly-copies (agent_fault.Damaged part) refused reopens unchanged spent = absurd refused
       badly-copies (agent_fault.Reopen cause) refused reopens unchanged spent = absurd refused
-      badly-copies agent_fault.Exists refused reopens unchanged spent = absurd refused
       badly-copies agent_fault.Memory refused reopens unchanged spent = failed-copies agent_fault.Memory spent_for.Memory spent refused refl tt
 
     -- what it did was for what the history does with the Data
@@ -242,10 +236,7 @@ module _ (honest : Type 0) (host : Seen) (agent : AgentState) (message : Data) (
       badly-for (agent_fault.Refused why) refused fails unchanged = left-for (agent_fault.Refused why) refl (unchanged tt).1
       badly-for (agent_fault.Health why) refused fails unchanged = absurd refused
       badly-for agent_fault.DiskFault refused fails unchanged = spent-for-data agent_fault.DiskFault refused (fails (inl refl))
-      badly-for agent_fault.NotADatabase refused fails unchanged = absurd refused
-      badly-for (agent_fault.Damaged part) refused fails unchanged = absurd refused
       badly-for (agent_fault.Reopen cause) refused fails unchanged = absurd refused
-      badly-for agent_fault.Exists refused fails unchanged = absurd refused
       badly-for agent_fault.Memory refused fails unchanged = spent-for-data agent_fault.Memory refused (fails (inr refl))
 
     pub data-badly : IsData message → (a : Option (List ℕ)) → ParentTakes honest host agent taking (failed fault) middle agent' (Some id) a a

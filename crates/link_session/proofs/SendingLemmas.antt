@@ -169,6 +169,3 @@ module _ {S : Type 0} (course : Course S) (now : S) (past : List Event) (agent :
   agent-fails (agent_fault.Refused fault) reading reopens = absurd reading
   agent-fails (agent_fault.Health fault) reading reopens = absurd reading
   agent-fails agent_fault.DiskFault reading reopens = absurd reading
-  agent-fails agent_fault.NotADatabase reading reopens = absurd reading
-  agent-fails (agent_fault.Damaged part) reading reopens = absurd reading
-  agent-fails agent_fault.Exists reading reopens = absurd reading

@@ -81,10 +81,10 @@ pub record FailsAtData (set : Settings) (h0 : List Beat) (frames : List Frame) (
 -- the faults of `receive`
 abbrev pub IsAgentsReceiving : AgentFault → Type 0
 IsAgentsReceiving (agent_fault.Refused fault) = Unit {0}
+IsAgentsReceiving (agent_fault.Health fault) = ⊥
 IsAgentsReceiving agent_fault.DiskFault = Unit {0}
 IsAgentsReceiving (agent_fault.Reopen cause) = Unit {0}
 IsAgentsReceiving agent_fault.Memory = Unit {0}
-IsAgentsReceiving fault = ⊥
 
 abbrev pub IsReceiving : SessionFault → Type 0
 IsReceiving (Agent fault) = IsAgentsReceiving fault

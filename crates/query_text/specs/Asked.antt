@@ -24,10 +24,15 @@ words_read text = if has_open_quote text then Err BadWord else Ok (words text)
 
 -- ---- the pattern
 
--- the words of a pattern with a blank between them, or `*` where there are none
+-- words with a blank between two
+abbrev pub joined : List (List ℕ) → List ℕ
+joined [] = []
+joined (word ∷ others) = word ++ flat_map (λ other. codes " " ++ other) others
+
+-- the words of a pattern, or `*` where there are none
 abbrev pub pattern_text : List (List ℕ) → List ℕ
 pattern_text [] = codes "*"
-pattern_text (word ∷ others) = word ++ flat_map (λ other. codes " " ++ other) others
+pattern_text (word ∷ others) = joined (word ∷ others)
 
 -- the words of a pattern, at most 256, cut at the blanks of its text
 abbrev pub pattern_read : List (List ℕ) → Result (List (List ℕ)) QueryFault

@@ -25,4 +25,5 @@ pub use fault::QueryFault;
 pub use law::{replies_are_whole_lines, windows_start_in_the_span};
 pub use query::read_query;
 pub use reply::{write_fault, write_table};
+pub use selection::join;
 pub use span::MOST_WINDOWS;

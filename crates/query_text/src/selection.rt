@@ -1,7 +1,7 @@
 //! Which names a query's pattern accepts.
 ghost use Rattle.std.specs.Prelude.{◌≡◌, ◌++◌, List, [], codes, Ok, IfOk, IfErr, OnOk};
 ghost use Rattle.std.specs.List.{flat_map};
-ghost use Rattle.query_text.specs.Asked.{pattern_text, pattern_read};
+ghost use Rattle.query_text.specs.Asked.{joined, pattern_text, pattern_read};
 ghost use Rattle.query_text.specs.Fault.{IsFaultFor};
 ghost use Rattle.query_text.specs.Shown.{accepts};
 
@@ -28,16 +28,26 @@ fn push_words(text: &mut Text, words: &[Text]) -> Result<(), AllocError>
     Ok(())
 }
 
-/// The text of a pattern by the words of a query that are left for it.
-fn pattern_text(alloc: Global, given: &[Text]) -> Result<Text, AllocError>
-    ensures { IfOk result (λ text. text ≡ pattern_text given.now) }
+/// The words with a blank between two.
+pub fn join(alloc: Global, words: &[Text]) -> Result<Text, AllocError>
+    ensures { IfOk result (λ text. text ≡ joined words.now) }
 {
-    let [first, others @ ..] = given else {
-        return Text::from_str(alloc, "*");
+    let [first, others @ ..] = words else {
+        return Ok(Text::new(alloc));
     };
     let mut text = first.clone()?;
     push_words(&mut text, others)?;
     Ok(text)
+}
+
+/// The text of a pattern by the words of a query that are left for it.
+fn pattern_text(alloc: Global, given: &[Text]) -> Result<Text, AllocError>
+    ensures { IfOk result (λ text. text ≡ pattern_text given.now) }
+{
+    if given.is_empty() {
+        return Text::from_str(alloc, "*");
+    }
+    join(alloc, given)
 }
 
 /// Reads the pattern that is left of a query.

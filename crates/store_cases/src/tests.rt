@@ -9,7 +9,8 @@ use std::process::Abort;
 use std::test::Fail;
 use storage_number::pack;
 use store_core::{
-    Beat, BeatPoint, BeatPointList, ByteList, KeptPoint, Settings, Store, StoreFault, is_in_limits,
+    Beat, BeatPoint, BeatPointList, ByteList, CreateFault, KeptPoint, OpenFault, Settings, Store,
+    StoreFault, is_in_limits,
 };
 
 mod crash;
@@ -35,29 +36,25 @@ fn side_of(alloc: Global, count: u64) -> Result<ByteList, AllocError>
     ByteList::from_slice(alloc, count.to_le_bytes().as_slice())
 }
 
-/// Makes a database with these items and segments of each tier.
+/// Makes a database with these items and segments of each tier, which are within the limits.
 fn create_with(
     alloc: Global,
     host: &mut MemoryHost,
     quotas: [(u32, u32); 3],
-) -> Result<Store, StoreFault>
+) -> Result<Store, CreateFault>
     ensures ready { IfOk result (IsReadyOn host.new) }
     ensures replayed { IfOk result IsReplayed }
 {
-    let Ok(settings) = Settings::new(alloc, 7, quotas) else {
-        return Err(StoreFault::Memory);
-    };
-    let Ok(side) = side_of(alloc, 0) else {
-        return Err(StoreFault::Memory);
-    };
+    let settings = Settings::new(alloc, 7, quotas)?;
+    let side = side_of(alloc, 0)?;
     if !is_in_limits(&settings) {
-        return Err(StoreFault::Damaged(0));
+        return Err(CreateFault::Memory);
     }
     Store::create(alloc, host, &settings, side)
 }
 
 /// Makes a database that keeps few points.
-fn create(alloc: Global, host: &mut MemoryHost) -> Result<Store, StoreFault>
+fn create(alloc: Global, host: &mut MemoryHost) -> Result<Store, CreateFault>
     ensures ready { IfOk result (IsReadyOn host.new) }
     ensures replayed { IfOk result IsReplayed }
 {
@@ -81,7 +78,7 @@ fn make_room(alloc: Global, store: &mut Store, host: &mut MemoryHost) -> Result<
     store.checkpoint(host, side)
 }
 
-/// Adds a beat, after a checkpoint where one is due.
+/// Adds a beat in form, after a checkpoint where one is due.
 fn add_beat(
     alloc: Global,
     store: &mut Store,
@@ -94,7 +91,7 @@ fn add_beat(
     ensures replayed { IsReplayed store.new }
 {
     if !beat.is_in_form() || !beat.fits_a_record() {
-        return Err(StoreFault::Damaged(0));
+        return Err(StoreFault::Memory);
     }
     make_room(alloc, store, host)?;
     store.commit(host, beat)
@@ -149,25 +146,21 @@ fn add(
 }
 
 /// Makes a database that keeps few points, and adds a beat for each of these moments and values.
-fn made(alloc: Global, host: &mut MemoryHost, values: &[(u32, i32)]) -> Result<Store, StoreFault> {
+fn made(alloc: Global, host: &mut MemoryHost, values: &[(u32, i32)]) -> Result<Store, Fail> {
     let mut store = create(alloc, host)?;
     add(alloc, &mut store, host, values)?;
     Ok(store)
 }
 
 /// Opens the database, of which nothing is promised here.
-fn open(alloc: Global, host: &mut MemoryHost) -> Result<Store, StoreFault> {
+fn open(alloc: Global, host: &mut MemoryHost) -> Result<Store, OpenFault> {
     Store::open(alloc, host)
 }
 
 /// Makes a database of these beats, and opens it again.
-fn made_again(
-    alloc: Global,
-    host: &mut MemoryHost,
-    values: &[(u32, i32)],
-) -> Result<Store, StoreFault> {
+fn made_again(alloc: Global, host: &mut MemoryHost, values: &[(u32, i32)]) -> Result<Store, Fail> {
     let _store = made(alloc, host, values)?;
-    open(alloc, host)
+    Ok(open(alloc, host)?)
 }
 
 /// Checks the kept beats, which have a 1 at each of these moments, and how many came before.
@@ -209,18 +202,19 @@ const NINE: [(u32, i32); 9] = [
 fn there_is_one_database_on_a_disk(rt: HostRuntime) -> Result<(), Fail> {
     let mut host = new_host(rt.alloc())?;
     let found = open(rt.alloc(), &mut host).err();
-    assert_eq!(rt; found, Some(StoreFault::NotADatabase));
-    let first = made(rt.alloc(), &mut host, &[]).err();
+    assert_eq!(rt; found, Some(OpenFault::NotADatabase));
+    let first = create(rt.alloc(), &mut host).err();
     assert_eq!(rt; first, None);
-    let again = made(rt.alloc(), &mut host, &[]).err();
-    assert_eq!(rt; again, Some(StoreFault::Exists));
+    let again = create(rt.alloc(), &mut host).err();
+    assert_eq!(rt; again, Some(CreateFault::Exists));
     Ok(())
 }
 
 #[test]
 fn the_moments_of_beats_rise(rt: HostRuntime) -> Result<(), Fail> {
     let mut host = new_host(rt.alloc())?;
-    let answer = made(rt.alloc(), &mut host, &[(60, 1), (60, 1)]).err();
+    let mut store = create(rt.alloc(), &mut host)?;
+    let answer = add(rt.alloc(), &mut store, &mut host, &[(60, 1), (60, 1)]).err();
     assert_eq!(rt; answer, Some(StoreFault::MomentOrder(60)));
     Ok(())
 }
@@ -259,13 +253,11 @@ fn a_checkpoint_keeps_what_beats_left(rt: HostRuntime) -> Result<(), Fail> {
 }
 
 /// Makes a database whose only beat has a 42 at the second 60, and a checkpoint of it.
-fn one_in_a_checkpoint(alloc: Global, host: &mut MemoryHost) -> Result<(), StoreFault> {
+fn one_in_a_checkpoint(alloc: Global, host: &mut MemoryHost) -> Result<(), Fail> {
     let mut store = create_with(alloc, host, [MOST, MOST, MOST])?;
     add(alloc, &mut store, host, &[(60, 42)])?;
-    let Ok(side) = side_of(alloc, store.count()) else {
-        return Err(StoreFault::Memory);
-    };
-    store.checkpoint(host, side)
+    let side = side_of(alloc, store.count())?;
+    Ok(store.checkpoint(host, side)?)
 }
 
 /// Checks that this beat is all that is kept.

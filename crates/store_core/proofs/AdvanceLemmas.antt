@@ -247,9 +247,6 @@ cause-of-files old new files_faults.DiskFault given is cause = record {
   failed = λ disk. cause.failed refl;
   stays = λ other. absurd (other (ap (λ (f : StoreFault). Err f) is));
 }
-cause-of-files old new files_faults.Exists given is cause = record { later = cause.later; failed = λ disk. absurd cc; stays = λ other. cause.stays (λ disk. absurd cc) }
-cause-of-files old new files_faults.NotADatabase given is cause = record { later = cause.later; failed = λ disk. absurd cc; stays = λ other. cause.stays (λ disk. absurd cc) }
-cause-of-files old new (files_faults.Damaged part) given is cause = record { later = cause.later; failed = λ disk. absurd cc; stays = λ other. cause.stays (λ disk. absurd cc) }
 cause-of-files old new files_faults.Memory given is cause = record { later = cause.later; failed = λ disk. absurd cc; stays = λ other. cause.stays (λ disk. absurd cc) }
 
 -- a store that is ready goes on from its body

@@ -20,8 +20,8 @@ use Rattle.store_core.specs.disk.Shares.{share, HasRoom}
 use Rattle.store_core.proofs.DiskProofs.OneLemmas.{one_contents}
 use Rattle.store_core.proofs.DiskProofs.ShareLemmas.{has_room}
 use Rattle.store_core.specs.declared.beats.beat.Beat.{Beat}
-use Rattle.store_core.specs.declared.fault.StoreFault.{StoreFault}
-use Rattle.store_core.specs.declared.fault.StoreFault.TheVariants.{Damaged, DiskFault, Memory}
+use Rattle.store_core.specs.declared.fault.OpenFault.{OpenFault}
+use Rattle.store_core.specs.declared.fault.OpenFault.TheVariants.{Damaged, DiskFault, Memory}
 use Rattle.store_core.specs.beats.Records.{beats_from, with_all, AreNext}
 use Rattle.store_core.specs.Counts.{counted}
 use Rattle.store_core.proofs.BeatProofs.RecordLaw.{are-read, oldest_first, AreBytes}
@@ -198,7 +198,7 @@ pub form-made : (body : Body) (beats : List Beat) (disk : File → List ℕ) →
 form-made body beats disk form = is-made disk ∙ ap (λ (slot : Option Slot). is_some slot) form.files.checkpoint.checkpoint
 
 -- where a part is damaged, neither the disk nor memory failed
-pub damaged-fails : (fault : StoreFault) (part : ℕ) → fault ≡ Damaged part → (fault ≡ DiskFault) ⊎ (fault ≡ Memory) → ⊥
+pub damaged-fails : (fault : OpenFault) (part : ℕ) → fault ≡ Damaged part → (fault ≡ DiskFault) ⊎ (fault ≡ Memory) → ⊥
 damaged-fails fault part is (inl failed) = let e : Damaged part ≡ DiskFault = sym is ∙ failed in cc
 damaged-fails fault part is (inr full) = let e : Damaged part ≡ Memory = sym is ∙ full in cc
 

@@ -1,16 +1,14 @@
 -- Which disks hold a database: one at most, and none where a part is damaged.
-use Rattle.std.proofs.Common.{◌≡◌, ◌⊎◌, ℕ, zero, suc, Bool, true, false, List, [], ◌∷◌, ◌+◌, length, if◌then◌else◌, Option, Some, None, inl, inr, arith, refl, sym, ap, ◌∙◌, subst}
+use Rattle.std.proofs.Common.{◌≡◌, ◌⊎◌, ℕ, Bool, true, false, List, [], ◌∷◌, ◌+◌, length, if◌then◌else◌, Option, Some, None, inl, inr, arith, refl, sym, ap, ◌∙◌, subst}
 use Rattle.std.specs.Option.{is_some}
-use Rattle.std.proofs.lemmas.Option.{none-some, same_Some}
+use Rattle.std.proofs.lemmas.Option.{same_Some}
 use Rattle.host_model.specs.declared.file.File.{File}
 use Rattle.host_model.specs.Disks.{EveryDisk}
 use Rattle.host_model.specs.Past.{Event, Told}
-use Rattle.beat_tiers.specs.State.{TiersState}
 use Rattle.checkpoint.specs.Files.{checkpoint_in, Slot}
 use Rattle.checkpoint_body.specs.declared.body.Body.{Body}
 use Rattle.store_core.specs.disk.Contents.{Contents, KeptPages}
 use Rattle.store_core.specs.disk.Files.{FilesState, IsOpenOf}
-use Rattle.store_core.specs.disk.Holds.{Holds}
 use Rattle.store_core.proofs.DamageLemmas.{form-undamaged, holds-files}
 use Rattle.store_core.proofs.DiskProofs.OneLemmas.{one_contents}
 use Rattle.store_core.specs.declared.beats.beat.Beat.{Beat}

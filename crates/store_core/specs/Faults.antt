@@ -2,19 +2,20 @@
 use Rattle.std.specs.Prelude.{◌≡◌, ◌⊎◌, ◌≤◌, ℕ, Option, Some, None, Result, Ok, Err}
 use Rattle.store_core.specs.declared.disk.fault.FilesFault.{FilesFault}
 use Rattle.store_core.specs.declared.disk.fault.FilesFault.TheVariants as files
+use Rattle.store_core.specs.declared.fault.CreateFault.{CreateFault}
+use Rattle.store_core.specs.declared.fault.CreateFault.TheVariants as create
+use Rattle.store_core.specs.declared.fault.OpenFault.{OpenFault}
+use Rattle.store_core.specs.declared.fault.OpenFault.TheVariants as opening
 use Rattle.store_core.specs.declared.fault.StoreFault.{StoreFault}
-use Rattle.store_core.specs.declared.fault.StoreFault.TheVariants.{DiskFault, NotADatabase, Damaged, MomentOrder, Reopen, Exists, Memory}
+use Rattle.store_core.specs.declared.fault.StoreFault.TheVariants.{DiskFault, MomentOrder, Reopen, Memory}
 use Rattle.store_core.specs.declared.fault.Why.{Why}
 use Rattle.store_core.specs.declared.fault.Why.TheVariants as why
 
 -- the cause that a fault leaves
 abbrev pub cause_of : StoreFault → Option Why
 cause_of DiskFault = Some why.Disk
-cause_of NotADatabase = None
-cause_of (Damaged part) = None
 cause_of (MomentOrder last) = None
 cause_of (Reopen cause) = None
-cause_of Exists = None
 cause_of Memory = Some why.Memory
 
 -- the cause after a call: the first one stays
@@ -26,11 +27,8 @@ fault_after None (Err fault) = cause_of fault
 -- a fault is Reopen with the first cause where there is one, and else it is another
 abbrev pub ReopensWith : Option Why → StoreFault → Type 0
 ReopensWith before DiskFault = before ≡ None
-ReopensWith before NotADatabase = before ≡ None
-ReopensWith before (Damaged part) = before ≡ None
 ReopensWith before (MomentOrder last) = before ≡ None
 ReopensWith before (Reopen cause) = before ≡ Some cause
-ReopensWith before Exists = before ≡ None
 ReopensWith before Memory = before ≡ None
 
 -- a call answers Reopen with the first cause where there is one, and only there
@@ -41,44 +39,32 @@ Reopens before (Err fault) = ReopensWith before fault
 -- ---- the faults of each call
 
 -- why a database is not opened
-abbrev pub IsOpenFault : StoreFault → Type 0
-IsOpenFault DiskFault = Unit {0}
-IsOpenFault NotADatabase = Unit {0}
-IsOpenFault (Damaged part) = (1 ≤ part) × (part ≤ 4)
-IsOpenFault (MomentOrder last) = ⊥
-IsOpenFault (Reopen cause) = ⊥
-IsOpenFault Exists = ⊥
-IsOpenFault Memory = Unit {0}
+abbrev pub IsOpenFault : OpenFault → Type 0
+IsOpenFault opening.DiskFault = Unit {0}
+IsOpenFault opening.NotADatabase = Unit {0}
+IsOpenFault (opening.Damaged part) = (1 ≤ part) × (part ≤ 4)
+IsOpenFault opening.Memory = Unit {0}
 
 -- why what the files hold is not read
-abbrev pub IsReadFault : StoreFault → Type 0
-IsReadFault DiskFault = ⊥
-IsReadFault NotADatabase = ⊥
-IsReadFault (Damaged part) = (2 ≤ part) × (part ≤ 4)
-IsReadFault (MomentOrder last) = ⊥
-IsReadFault (Reopen cause) = ⊥
-IsReadFault Exists = ⊥
-IsReadFault Memory = Unit {0}
-
--- why a beat is not replayed
-abbrev pub IsReplayFault : StoreFault → Type 0
-IsReplayFault fault = (fault ≡ Memory) ⊎ ((cause : Why) × (fault ≡ Reopen cause))
+abbrev pub IsReadFault : OpenFault → Type 0
+IsReadFault opening.DiskFault = ⊥
+IsReadFault opening.NotADatabase = ⊥
+IsReadFault (opening.Damaged part) = (2 ≤ part) × (part ≤ 4)
+IsReadFault opening.Memory = Unit {0}
 
 -- why a checkpoint is not made
 abbrev pub IsCheckpointFault : StoreFault → Type 0
 IsCheckpointFault fault = (fault ≡ DiskFault) ⊎ (fault ≡ Memory) ⊎ ((cause : Why) × (fault ≡ Reopen cause))
 
--- what a fault of the files is of the store
+-- what a fault of the files is of a store
 abbrev pub fault_of_files : FilesFault → StoreFault
 fault_of_files files.DiskFault = DiskFault
-fault_of_files files.Exists = Exists
-fault_of_files files.NotADatabase = NotADatabase
-fault_of_files (files.Damaged part) = Damaged part
 fault_of_files files.Memory = Memory
 
--- why a database is not made
-abbrev pub IsCreateFault : StoreFault → Type 0
-IsCreateFault fault = (fault ≡ DiskFault) ⊎ (fault ≡ Exists) ⊎ (fault ≡ Memory)
+-- and of a database that is made
+abbrev pub create_fault_of_files : FilesFault → CreateFault
+create_fault_of_files files.DiskFault = create.DiskFault
+create_fault_of_files files.Memory = create.Memory
 
 -- why a beat is not added to a store whose last moment is this
 abbrev pub IsCommitFault : ℕ → StoreFault → Type 0

@@ -1,5 +1,5 @@
 -- What contracts see of a store, and of what a store is.
-use Rattle.std.specs.Prelude.{◌≡◌, ◌⊎◌, ℕ, ◌^◌, Bool, true, false, not, ◌&&◌, ◌||◌, nat_le, List, [], ◌∷◌, Option, Some, None}
+use Rattle.std.specs.Prelude.{◌≡◌, ◌⊎◌, ℕ, Bool, true, false, not, ◌&&◌, ◌||◌, nat_le, List, [], ◌∷◌, Option, Some, None}
 use Rattle.host_model.specs.Past.{Event}
 use Rattle.beat_tiers.specs.Beats.{TierBeat}
 use Rattle.beat_tiers.specs.Sound.{AreSound}

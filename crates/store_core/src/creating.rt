@@ -8,7 +8,6 @@ ghost use Rattle.host_model.specs.Moments.{Throughout};
 ghost use Rattle.host_model.specs.Past.{IsDisk};
 ghost use Rattle.store_core.specs.disk.Holds.{OnlyOwn};
 ghost use Rattle.store_core.specs.disk.Shares.{share, IsWithin};
-ghost use Rattle.store_core.specs.Faults.{IsCreateFault};
 ghost use Rattle.tier_settings.specs.Limits.{InLimits};
 ghost use Rattle.store_core.specs.Stands.{is_made, StandsIfMade};
 ghost use Rattle.store_core.specs.Store.{IsReady, IsReplayed, IsStoreOf};
@@ -16,7 +15,7 @@ ghost use Rattle.store_core.specs.Stored.{new_database};
 
 use crate::beats::Waiting;
 use crate::bodies::first_body;
-use crate::fault::StoreFault;
+use crate::fault::CreateFault;
 use crate::store::Store;
 use crate::tiers::new_tiers;
 use fixed_num::ByteList;
@@ -35,7 +34,7 @@ impl Store {
         host: &mut H,
         settings: &Settings,
         side: ByteList,
-    ) -> Result<Store, StoreFault>
+    ) -> Result<Store, CreateFault>
         requires settings { InLimits settings.now }
         requires short { length side < 2 ^ 32 }
         ensures created { IfOk result (λ store. H.honest
@@ -54,12 +53,12 @@ impl Store {
 
         // Where there is a database, it is refused, or the disk or memory failed, and nothing is
         // written.
-        ensures exists { IsErrOf result StoreFault.Exists → H.honest
+        ensures exists { IsErrOf result CreateFault.Exists → H.honest
             → is_made (reads_as (H.seen host.old).past) ≡ true }
         ensures none { OnOk result (H.honest → is_made (reads_as (H.seen host.old).past) ≡ false) }
         ensures made { H.honest → is_made (reads_as (H.seen host.old).past) ≡ true
-            → (IsErrOf result StoreFault.Exists ⊎ IsErrOf result StoreFault.DiskFault
-            ⊎ IsErrOf result StoreFault.Memory)
+            → (IsErrOf result CreateFault.Exists ⊎ IsErrOf result CreateFault.DiskFault
+            ⊎ IsErrOf result CreateFault.Memory)
             × ((file : AFile)
             → reads_as (H.seen host.new).past file ≡ reads_as (H.seen host.old).past file) }
         ensures made_moment { H.honest → is_made (reads_as (H.seen host.old).past) ≡ true
@@ -67,9 +66,9 @@ impl Store {
             (H.seen host.new).past }
 
         // Without memory nothing is written either.
-        ensures memory { IsErrOf result StoreFault.Memory → H.honest → (file : AFile)
+        ensures memory { IsErrOf result CreateFault.Memory → H.honest → (file : AFile)
             → reads_as (H.seen host.new).past file ≡ reads_as (H.seen host.old).past file }
-        ensures memory_moment { IsErrOf result StoreFault.Memory → H.honest
+        ensures memory_moment { IsErrOf result CreateFault.Memory → H.honest
             → Throughout (EveryDisk (IsDisk (H.seen host.old).past)) (H.seen host.old).past
             (H.seen host.new).past }
 
@@ -79,16 +78,15 @@ impl Store {
             → Throughout (IsWithin (share settings.now most)) (H.seen host.old).past
             (H.seen host.new).past }
         ensures only_here { H.honest → OnlyOwn (H.seen host.old).past (H.seen host.new).past }
-        ensures faults { IfErr result IsCreateFault }
         ensures cause { HasCause (H.seen host.old).disk_faults (H.seen host.new).disk_faults
-            (IsErrOf result StoreFault.DiskFault) }
+            (IsErrOf result CreateFault.DiskFault) }
         ensures output { (H.seen host.new).tell_faults ≡ (H.seen host.old).tell_faults }
     {
         let Ok(body) = first_body(alloc, settings, side) else {
-            return Err(StoreFault::Memory);
+            return Err(CreateFault::Memory);
         };
         let Ok(tiers) = new_tiers(alloc, settings) else {
-            return Err(StoreFault::Memory);
+            return Err(CreateFault::Memory);
         };
         let files = crate::disk::create(alloc, host, &body)?;
         Ok(Store {

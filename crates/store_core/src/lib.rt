@@ -43,7 +43,7 @@ mod view;
 
 pub use beat_tiers::{Kept, KeptBeat, KeptBeatList, KeptPoint, KeptPointList};
 pub use beats::{Beat, BeatPoint, BeatPointList, ByteList};
-pub use fault::{StoreFault, Why};
+pub use fault::{CreateFault, OpenFault, StoreFault, Why};
 pub use law::{base_has_what_beats_leave, one_disk_holds_one_database};
 pub use store::Store;
 pub use tier_settings::{Settings, Tier, is_in_limits};

@@ -31,8 +31,8 @@ ghost use Rattle.store_core.specs.Stored.{Stored as AStored};
 use crate::beats::{Waiting, read_beats};
 use crate::bodies::{left_tiers, tiers_of};
 use crate::disk::fault::{BODY_PART, EXTENT_PART, JOURNAL_PART};
-use crate::disk::{Left, Opened};
-use crate::fault::StoreFault;
+use crate::disk::{self, Opened};
+use crate::fault::OpenFault;
 use crate::store::Store;
 use beat_tiers::Tiers;
 use checkpoint_body::Body;
@@ -50,41 +50,41 @@ fn has_counted(body: &Body) -> bool
 }
 
 /// The tiers of an opened database at its checkpoint.
-fn read_tiers(alloc: Global, opened: &Opened) -> Result<Tiers, StoreFault>
+fn read_tiers(alloc: Global, opened: &Opened) -> Result<Tiers, OpenFault>
     requires spelt { HasSpelling opened.now.body }
     requires paged { HasPagesOfEach opened.now.body (contents_of opened.now).kept }
     ensures counted { OnOk result (HasCounted opened.now.body) }
     ensures tiers { IfOk result (λ tiers. AreTiersOfBody opened.now.body
         (contents_of opened.now).kept (tiers_held tiers)) }
-    ensures broken { (part : ℕ) → IsErrOf result (StoreFault.Damaged part) → (stored : AStored)
+    ensures broken { (part : ℕ) → IsErrOf result (OpenFault.Damaged part) → (stored : AStored)
         → HasStored (contents_of opened.now) stored → ⊥ }
     ensures faults { IfErr result IsReadFault }
 {
     if !has_counted(&opened.body) {
-        return Err(StoreFault::Damaged(BODY_PART));
+        return Err(OpenFault::Damaged(BODY_PART));
     }
     match tiers_of(alloc, opened)? {
         Some(tiers) => Ok(tiers),
-        None => Err(StoreFault::Damaged(EXTENT_PART)),
+        None => Err(OpenFault::Damaged(EXTENT_PART)),
     }
 }
 
 /// The beats of the records of a journal, behind a checkpoint with this last moment.
-fn read_waiting(alloc: Global, last: u32, records: &[ByteList]) -> Result<Waiting, StoreFault>
+fn read_waiting(alloc: Global, last: u32, records: &[ByteList]) -> Result<Waiting, OpenFault>
     ensures beats { IfOk result (λ found. beats_from last records.now ≡ Some found) }
     ensures bytes { OnOk result (AllByRecursion IsBytes records.now) }
-    ensures damaged { (part : ℕ) → IsErrOf result (StoreFault.Damaged part)
+    ensures damaged { (part : ℕ) → IsErrOf result (OpenFault.Damaged part)
         → (part ≡ 4) × (beats_from last records.now ≡ None) }
     ensures faults { IfErr result IsReadFault }
 {
     match read_beats(alloc, last, records)? {
         Some(waiting) => Ok(waiting),
-        None => Err(StoreFault::Damaged(JOURNAL_PART)),
+        None => Err(OpenFault::Damaged(JOURNAL_PART)),
     }
 }
 
 /// The tiers of an opened database at its checkpoint, and the beats since.
-fn read_all(alloc: Global, opened: &Opened) -> Result<(Tiers, Waiting), StoreFault>
+fn read_all(alloc: Global, opened: &Opened) -> Result<(Tiers, Waiting), OpenFault>
     requires spelt { HasSpelling opened.now.body }
     requires paged { HasPagesOfEach opened.now.body (contents_of opened.now).kept }
     ensures counted { OnOk result (HasCounted opened.now.body) }
@@ -93,7 +93,7 @@ fn read_all(alloc: Global, opened: &Opened) -> Result<(Tiers, Waiting), StoreFau
     ensures beats { IfOk result (λ found.
         beats_from opened.now.body.last opened.now.records ≡ Some found.1) }
     ensures bytes { OnOk result (AllByRecursion IsBytes opened.now.records) }
-    ensures broken { (part : ℕ) → IsErrOf result (StoreFault.Damaged part) → (stored : AStored)
+    ensures broken { (part : ℕ) → IsErrOf result (OpenFault.Damaged part) → (stored : AStored)
         → HasStored (contents_of opened.now) stored → ⊥ }
     ensures faults { IfErr result IsReadFault }
 {
@@ -102,34 +102,9 @@ fn read_all(alloc: Global, opened: &Opened) -> Result<(Tiers, Waiting), StoreFau
     Ok((tiers, waiting))
 }
 
-/// Opens the files of a database.
-fn open_files<H: Host>(alloc: Global, host: &mut H) -> Result<Opened, StoreFault>
-    ensures holds { IfOk result (λ opened. H.honest
-        → Holds (contents_of opened) (reads_as (H.seen host.old).past)) }
-    ensures opened { IfOk result (λ opened. H.honest
-        → IsOpenOf (H.seen host.new).past opened.files (contents_of opened)) }
-    ensures spelt { IfOk result (λ opened. HasSpelling opened.body) }
-    ensures paged { IfOk result
-        (λ opened. HasPagesOfEach opened.body (contents_of opened).kept) }
-    ensures place { IfOk result (λ opened. IsPlaced opened.files) }
-    ensures none { IsErrOf result StoreFault.NotADatabase → H.honest
-        → is_made (reads_as (H.seen host.old).past) ≡ false }
-    ensures some { OnOk result (H.honest → is_made (reads_as (H.seen host.old).past) ≡ true) }
-    ensures complete { H.honest → (contents : Contents)
-        → Holds contents (reads_as (H.seen host.old).past)
-        → IfErr result (λ fault. (fault ≡ StoreFault.DiskFault) ⊎ (fault ≡ StoreFault.Memory)) }
-    ensures faults { IfErr result IsOpenFault }
-    ensures syncs { H.honest → OnlySyncs (H.seen host.old).past (H.seen host.new).past }
-    ensures cause { HasCause (H.seen host.old).disk_faults (H.seen host.new).disk_faults
-        (IsErrOf result StoreFault.DiskFault) }
-    ensures output { (H.seen host.new).tell_faults ≡ (H.seen host.old).tell_faults }
-{
-    Ok(crate::disk::open(alloc, host)?)
-}
-
 /// Opens a database whose disk holds what beats leave. It is refused as damaged where the disk
 /// does not.
-fn open_whole<H: Host>(alloc: Global, host: &mut H) -> Result<Store, StoreFault>
+fn open_whole<H: Host>(alloc: Global, host: &mut H) -> Result<Store, OpenFault>
     ensures opened { IfOk result (λ store. H.honest → (stored : AStored)
         → Stands stored (reads_as (H.seen host.old).past)
         → OpensAt (H.seen host.new).past store stored) }
@@ -139,19 +114,19 @@ fn open_whole<H: Host>(alloc: Global, host: &mut H) -> Result<Store, StoreFault>
     ensures last { IfOk result (λ store. store.tiers.last ≡ store.body.last) }
     ensures form { IfOk result (λ store. H.honest
         → HasForm store.body store.waiting (reads_as (H.seen host.old).past)) }
-    ensures none { IsErrOf result StoreFault.NotADatabase → H.honest
+    ensures none { IsErrOf result OpenFault.NotADatabase → H.honest
         → is_made (reads_as (H.seen host.old).past) ≡ false }
     ensures complete { H.honest → (stored : AStored)
         → Stands stored (reads_as (H.seen host.old).past)
-        → IfErr result (λ fault. (fault ≡ StoreFault.DiskFault)
-        ⊎ (fault ≡ StoreFault.Memory)) }
+        → IfErr result (λ fault. (fault ≡ OpenFault.DiskFault)
+        ⊎ (fault ≡ OpenFault.Memory)) }
     ensures faults { IfErr result IsOpenFault }
     ensures syncs { H.honest → OnlySyncs (H.seen host.old).past (H.seen host.new).past }
     ensures cause { HasCause (H.seen host.old).disk_faults (H.seen host.new).disk_faults
-        (IsErrOf result StoreFault.DiskFault) }
+        (IsErrOf result OpenFault.DiskFault) }
     ensures output { (H.seen host.new).tell_faults ≡ (H.seen host.old).tell_faults }
 {
-    let opened = open_files(alloc, host)?;
+    let opened = disk::open(alloc, host)?;
     let (tiers, waiting) = read_all(alloc, &opened)?;
     Ok(Store {
         alloc,
@@ -165,45 +140,25 @@ fn open_whole<H: Host>(alloc: Global, host: &mut H) -> Result<Store, StoreFault>
     })
 }
 
-/// The files of a database, and what is left in its extents.
-fn left_files<H: Host>(alloc: Global, host: &mut H) -> Result<Left, StoreFault>
-    ensures formed { IfOk result (λ left. H.honest → HasFiles left.files.number left.body
-        left.records (reads_as (H.seen host.old).past)) }
-    ensures spelt { IfOk result (λ left. HasSpelling left.body) }
-    ensures ready { IfOk result
-        (λ left. FilesAreReady H.honest (H.seen host.new).past left.files) }
-    ensures none { IsErrOf result StoreFault.NotADatabase → H.honest
-        → is_made (reads_as (H.seen host.old).past) ≡ false }
-    ensures damaged { (part : ℕ) → IsErrOf result (StoreFault.Damaged part) → H.honest
-        → IsDamagedIn part (reads_as (H.seen host.old).past) }
-    ensures faults { IfErr result IsOpenFault }
-    ensures syncs { H.honest → OnlySyncs (H.seen host.old).past (H.seen host.new).past }
-    ensures cause { HasCause (H.seen host.old).disk_faults (H.seen host.new).disk_faults
-        (IsErrOf result StoreFault.DiskFault) }
-    ensures output { (H.seen host.new).tell_faults ≡ (H.seen host.old).tell_faults }
-{
-    Ok(crate::disk::open_left(alloc, host)?)
-}
-
 /// Opens a database whatever the pages of its extents hold. No later checkpoint of it is made.
-fn open_left<H: Host>(alloc: Global, host: &mut H) -> Result<Store, StoreFault>
+fn open_left<H: Host>(alloc: Global, host: &mut H) -> Result<Store, OpenFault>
     ensures ready { IfOk result (IsReady H.honest (H.seen host.new).past) }
     ensures going { IfOk result (λ store. store.fault ≡ None) }
     ensures count { IfOk result (λ store. store.count ≡ store.body.count) }
     ensures last { IfOk result (λ store. store.tiers.last ≡ store.body.last) }
     ensures form { IfOk result (λ store. H.honest
         → HasForm store.body store.waiting (reads_as (H.seen host.old).past)) }
-    ensures none { IsErrOf result StoreFault.NotADatabase → H.honest
+    ensures none { IsErrOf result OpenFault.NotADatabase → H.honest
         → is_made (reads_as (H.seen host.old).past) ≡ false }
-    ensures damaged { (part : ℕ) → IsErrOf result (StoreFault.Damaged part) → H.honest
+    ensures damaged { (part : ℕ) → IsErrOf result (OpenFault.Damaged part) → H.honest
         → IsDamagedIn part (reads_as (H.seen host.old).past) }
     ensures faults { IfErr result IsOpenFault }
     ensures syncs { H.honest → OnlySyncs (H.seen host.old).past (H.seen host.new).past }
     ensures cause { HasCause (H.seen host.old).disk_faults (H.seen host.new).disk_faults
-        (IsErrOf result StoreFault.DiskFault) }
+        (IsErrOf result OpenFault.DiskFault) }
     ensures output { (H.seen host.new).tell_faults ≡ (H.seen host.old).tell_faults }
 {
-    let left = left_files(alloc, host)?;
+    let left = disk::open_left(alloc, host)?;
     let waiting = read_waiting(alloc, left.body.last, left.records.as_slice())?;
     let tiers = left_tiers(alloc, &left)?;
     Ok(Store {
@@ -227,7 +182,7 @@ impl Store {
     /// its form: 1 the checkpoint's file, 2 its body, 3 an extent's slot, length, head or directory,
     /// 4 the journal. A disk that is in form and holds what no beats leave is opened too: what its
     /// pages do not say is left out, and no later checkpoint of it is made.
-    pub fn open<H: Host>(alloc: Global, host: &mut H) -> Result<Store, StoreFault>
+    pub fn open<H: Host>(alloc: Global, host: &mut H) -> Result<Store, OpenFault>
         ensures opened { IfOk result (λ store. H.honest → (stored : AStored)
             → Stands stored (reads_as (H.seen host.old).past)
             → OpensAt (H.seen host.new).past store stored) }
@@ -248,12 +203,12 @@ impl Store {
 
         // It is opened exactly where the disk is in the form of a database, but for the disk and
         // memory.
-        ensures none { IsErrOf result StoreFault.NotADatabase → H.honest
+        ensures none { IsErrOf result OpenFault.NotADatabase → H.honest
             → is_made (reads_as (H.seen host.old).past) ≡ false }
         ensures some { OnOk result (H.honest → is_made (reads_as (H.seen host.old).past) ≡ true) }
         ensures form { IfOk result (λ store. H.honest
             → HasForm store.body store.waiting (reads_as (H.seen host.old).past)) }
-        ensures damaged { (part : ℕ) → IsErrOf result (StoreFault.Damaged part) → H.honest
+        ensures damaged { (part : ℕ) → IsErrOf result (OpenFault.Damaged part) → H.honest
             → IsDamagedIn part (reads_as (H.seen host.old).past) }
         ensures whole { OnOk result (H.honest → (part : ℕ)
             → IsDamagedIn part (reads_as (H.seen host.old).past) → ⊥) }
@@ -264,16 +219,16 @@ impl Store {
             → EveryDisk (Stands stored) (H.seen host.new).past) }
         ensures complete { H.honest → (stored : AStored)
             → Stands stored (reads_as (H.seen host.old).past)
-            → IfErr result (λ fault. (fault ≡ StoreFault.DiskFault)
-            ⊎ (fault ≡ StoreFault.Memory)) }
+            → IfErr result (λ fault. (fault ≡ OpenFault.DiskFault)
+            ⊎ (fault ≡ OpenFault.Memory)) }
         ensures faults { IfErr result IsOpenFault }
         ensures cause { HasCause (H.seen host.old).disk_faults (H.seen host.new).disk_faults
-            (IsErrOf result StoreFault.DiskFault) }
+            (IsErrOf result OpenFault.DiskFault) }
         ensures output { (H.seen host.new).tell_faults ≡ (H.seen host.old).tell_faults }
     {
         match open_whole(alloc, host) {
             Ok(store) => Ok(store),
-            Err(StoreFault::Damaged(_)) => open_left(alloc, host),
+            Err(OpenFault::Damaged(_)) => open_left(alloc, host),
             Err(fault) => Err(fault),
         }
     }

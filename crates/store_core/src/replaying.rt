@@ -1,18 +1,15 @@
 //! The beats since the checkpoint are applied.
 
-ghost use Rattle.std.specs.Prelude.{◌≡◌, List, ◌∷◌, IfErr, IfOk, OnErr, OnOk};
+ghost use Rattle.std.specs.Prelude.{◌≡◌, List, ◌∷◌, IfOk, OnErr, OnOk};
 ghost use Rattle.host_model.specs.Past.{Event};
 ghost use Rattle.beat_tiers.specs.Room.{tiers_held, HasRoomFor};
 ghost use Rattle.store_core.specs.declared.beats.beat.Beat.{Beat as ABeat};
-ghost use Rattle.store_core.specs.Faults.{fault_after, Reopens};
 ghost use Rattle.store_core.specs.beats.Records.{TakesFirst};
 ghost use Rattle.store_core.specs.Store.{tiers_after};
-ghost use Rattle.store_core.specs.Faults.{IsReplayFault};
 ghost use Rattle.store_core.specs.Store.{count_after, stays_whole, IsStoreAt, Replays};
 ghost use Rattle.store_core.specs.Stored.{Stored as AStored};
 
 use crate::beats::{Beat, Waiting};
-use crate::fault::{StoreFault, Why};
 use crate::store::Store;
 use beat_tiers::Tiers;
 use std::alloc::AllocError;
@@ -34,9 +31,8 @@ impl Store {
     /// applied.
     ///
     /// Where it stands behind a beat that sealed a segment, as beats leave none, no later checkpoint
-    /// is made. `Memory` comes before anything is applied; after it the database must be opened
-    /// again.
-    pub fn replay(&mut self) -> Result<Option<Beat>, StoreFault>
+    /// is made. After an `Err` nothing has changed.
+    pub fn replay(&mut self) -> Result<Option<Beat>, AllocError>
         ensures next { (past : List Event) (stored : AStored) (rest : List ABeat)
             → IsStoreAt past self.old stored rest
             → IfOk result (Replays past self.new stored rest) }
@@ -48,28 +44,13 @@ impl Store {
         ensures whole { OnOk result (self.new.whole ≡ stays_whole self.old) }
         ensures files { self.new.files ≡ self.old.files }
         ensures body { self.new.body ≡ self.old.body }
-
-        // After a refusal all but the fault is as before, and each call answers Reopen with its
-        // cause.
-        ensures leaves { OnErr result (self.new ≡ record self.old { fault = self.new.fault }) }
-        ensures fault { self.new.fault ≡ fault_after self.old.fault result }
-        ensures reopens { Reopens self.old.fault result }
-        ensures faults { IfErr result IsReplayFault }
+        ensures fault { self.new.fault ≡ self.old.fault }
+        ensures leaves { OnErr result (self.new ≡ self.old) }
     {
-        if let Some(cause) = self.fault {
-            return Err(StoreFault::Reopen(cause));
-        }
         let stays_whole = self.stays_whole();
-        match self.apply_next() {
-            Ok(next) => {
-                self.whole = stays_whole;
-                Ok(next)
-            }
-            Err(_) => {
-                self.fault = Some(Why::Memory);
-                Err(StoreFault::Memory)
-            }
-        }
+        let next = self.apply_next()?;
+        self.whole = stays_whole;
+        Ok(next)
     }
 
     /// Gives the next beat that waits, and applies it.

@@ -7,6 +7,7 @@ use Rattle.agent_app.specs.Command.{command_of, settings_for}
 use Rattle.agent_app.specs.Query.{question_of, reply_for}
 use Rattle.agent_app.specs.Log.{log_for}
 use Rattle.agent_app.proofs.BoundLemmas.{found-within, leaves-within, stays-as, stays-still, unopened-stays}
+use Rattle.agent_app.proofs.CommandLemmas.{has-word}
 use Rattle.agent_app.proofs.WantLemmas.{no-usage, want-asks, want-collects, want-complete, want-configures, want-converts, want-leaves, want-makes, want-receives, want-runs, want-sends}
 use Rattle.agent_app.proofs.agent_main.Goals as goal
 
@@ -85,6 +86,11 @@ returns-in-Ok-Some-New-clause-bound g c h =
     let is : c.read.result ≡ Ok (Some (New c.in-Ok-Some-New.plan)) = cc in
     stays-as c.read.result c.args.words.now (Some (New c.in-Ok-Some-New.plan)) host.past host'.past is c.read.ensures.command
     (λ limit fits. c.new.ensures.bound limit (omega (arith, fits)) h)
+
+pub query-requires : goal.query-requires
+query-requires g c =
+    let is : c.read.result ≡ Ok (Some Query) = cc in
+    has-word c.read.result c.args.words.now Query is c.read.ensures.command
 
 pub returns-in-Ok-Some-Query-clause-bound : goal.returns-in-Ok-Some-Query-clause-bound
 returns-in-Ok-Some-Query-clause-bound g c h =

@@ -93,7 +93,7 @@ fn two_notes(alloc: Global, host: &mut MemoryHost, first: &Beat, second: &Beat) 
 }
 
 /// What opening answers where the side is this.
-fn sided(alloc: Global, side: &[u8]) -> Result<Option<AgentFault>, Fail> {
+fn sided(alloc: Global, side: &[u8]) -> Result<Option<OpenFault>, Fail> {
     let mut host = host_of(alloc, &[])?;
     make_side(alloc, &mut host, side)?;
     Ok(opened(alloc, &mut host).err())
@@ -103,7 +103,7 @@ fn sided(alloc: Global, side: &[u8]) -> Result<Option<AgentFault>, Fail> {
 fn a_side_that_is_none_is_damage(rt: HostRuntime) -> Result<(), Fail> {
     let alloc = rt.alloc();
     assert_eq!(rt; sided(alloc, NOTHING.as_slice())?, None);
-    let damaged = Some(AgentFault::Damaged(5));
+    let damaged = Some(OpenFault::Damaged(5));
     assert_eq!(rt; sided(alloc, b"")?, damaged);
     // A collector of no chart, and a child where nothing was copied.
     let collects =
@@ -116,7 +116,7 @@ fn a_side_that_is_none_is_damage(rt: HostRuntime) -> Result<(), Fail> {
 }
 
 /// What opening answers where the one beat has this note and these points.
-fn noted(alloc: Global, bytes: &[u8], points: &[BeatPoint]) -> Result<Option<AgentFault>, Fail> {
+fn noted(alloc: Global, bytes: &[u8], points: &[BeatPoint]) -> Result<Option<OpenFault>, Fail> {
     let mut host = host_of(alloc, &[])?;
     note(alloc, &mut host, bytes, points)?;
     Ok(opened(alloc, &mut host).err())
@@ -127,7 +127,7 @@ fn a_note_that_is_no_entry_is_damage(rt: HostRuntime) -> Result<(), Fail> {
     let alloc = rt.alloc();
     assert_eq!(rt; noted(alloc, EMPTY.as_slice(), &[])?, None);
     // The same at 61, with a byte behind it, and with a row of a chart that is not there.
-    let damaged = Some(AgentFault::Damaged(5));
+    let damaged = Some(OpenFault::Damaged(5));
     let later = b"\x01\x3d\0\0\0\0\0\0\0\0\0\0\0\0\0\0\0";
     assert_eq!(rt; noted(alloc, later, &[])?, damaged);
     let longer = b"\x01\x3c\0\0\0\0\0\0\0\0\0\0\0\0\0\0\0\0";
@@ -145,10 +145,7 @@ fn a_journal_that_is_changed_is_damage(rt: HostRuntime) -> Result<(), Fail> {
     let mut host = host_of(alloc, &[])?;
     note(alloc, &mut host, EMPTY.as_slice(), &[])?;
     host.write_at(File::JournalA, 0, b"\xff")?;
-    assert_eq!(rt;
-        opened(alloc, &mut host).err(),
-        Some(AgentFault::Damaged(4))
-    );
+    assert_eq!(rt; opened(alloc, &mut host).err(), Some(OpenFault::Damaged(4)));
     Ok(())
 }
 
@@ -161,7 +158,7 @@ fn a_chart_whose_id_has_no_dot_is_damage(rt: HostRuntime) -> Result<(), Fail> {
     assert_eq!(rt; noted(alloc, dot, &[])?, None);
     let none =
         b"\x01\x3c\0\0\0\x01\0\0\0\0\0\0\0\x03\0a_b\0\0\0\0\0\0\0\0\0\0\0\xe8\x03\0\0\0\0\0\0\x01\0\0\0\0\0\0\0\0\0\0\0\0";
-    assert_eq!(rt; noted(alloc, none, &[])?, Some(AgentFault::Damaged(5)));
+    assert_eq!(rt; noted(alloc, none, &[])?, Some(OpenFault::Damaged(5)));
     Ok(())
 }
 
@@ -203,7 +200,7 @@ fn a_database_of_copies_opens(rt: HostRuntime) -> Result<(), Fail> {
 }
 
 /// What opening answers where the copied beat has another byte at this place.
-fn changed_copy(alloc: Global, place: usize, byte: u8) -> Result<Option<AgentFault>, Fail>
+fn changed_copy(alloc: Global, place: usize, byte: u8) -> Result<Option<OpenFault>, Fail>
     requires { place < 61 }
 {
     let mut bytes = *COPY;
@@ -215,7 +212,7 @@ fn changed_copy(alloc: Global, place: usize, byte: u8) -> Result<Option<AgentFau
 #[test]
 fn a_copied_beat_that_does_not_go_on_is_damage(rt: HostRuntime) -> Result<(), Fail> {
     let alloc = rt.alloc();
-    let damaged = Some(AgentFault::Damaged(5));
+    let damaged = Some(OpenFault::Damaged(5));
     // The same moment, and another child than that of the gap.
     assert_eq!(rt; changed_copy(alloc, 9, 61)?, None);
     assert_eq!(rt; changed_copy(alloc, 1, 8)?, None);
@@ -227,7 +224,7 @@ fn a_copied_beat_that_does_not_go_on_is_damage(rt: HostRuntime) -> Result<(), Fa
 }
 
 /// What opening answers where there are two beats with these notes.
-fn opened_two(alloc: Global, first: &Beat, second: &Beat) -> Result<Option<AgentFault>, Fail>
+fn opened_two(alloc: Global, first: &Beat, second: &Beat) -> Result<Option<OpenFault>, Fail>
     requires forms { InForm first.now × InForm second.now }
     requires sizes { FitsARecord first.now × FitsARecord second.now }
 {
@@ -246,11 +243,11 @@ fn a_configuration_has_no_moment(rt: HostRuntime) -> Result<(), Fail> {
     let refused = kept(alloc, None, REFUSED.as_slice(), &[])?;
     assert_eq!(rt;
         opened_two(alloc, &beat, &refused)?,
-        Some(AgentFault::Damaged(5))
+        Some(OpenFault::Damaged(5))
     );
     assert_eq!(rt;
         noted(alloc, HEALTH.as_slice(), &[])?,
-        Some(AgentFault::Damaged(5))
+        Some(OpenFault::Damaged(5))
     );
     Ok(())
 }
@@ -264,7 +261,7 @@ fn copied_and_collected_beats_do_not_mix(rt: HostRuntime) -> Result<(), Fail> {
     let beat = kept(alloc, Some(60), EMPTY.as_slice(), &[])?;
     assert_eq!(rt;
         opened_two(alloc, &beat, &gap)?,
-        Some(AgentFault::Damaged(5))
+        Some(OpenFault::Damaged(5))
     );
     Ok(())
 }

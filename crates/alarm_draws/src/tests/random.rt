@@ -1,5 +1,5 @@
 //! Random configurations, charts and beats. What each call tells and how the alarms stand behind it is
-//! compared with the rules written once more, and the alarms are read again from their bytes.
+//! compared with the rules written once more, and the alarms are taken again from what is kept of them.
 ghost use Rattle.std.specs.Prelude.{◌≡◌, ◌+◌, ◌^◌, ◌&&◌, nat_le, nat_lt};
 ghost use Rattle.query_engine.specs.Points.{are_rising_from};
 
@@ -8,7 +8,7 @@ use super::plain::{
     state_line, take_beat,
 };
 use super::*;
-use alarm_events::{KeptState, read_alarms, value_text};
+use alarm_events::{KeptState, value_text};
 
 /// Numbers that follow from a seed.
 #[derive(Drop)]
@@ -322,7 +322,7 @@ fn kept_lines(alloc: Global, states: &[KeptState]) -> Result<String, Fail> {
     Ok(text)
 }
 
-/// Compares how the alarms stand, by their bytes, and reads them again: those have the same bytes.
+/// Compares how the alarms stand, by what is kept of them, and gives the alarms of that: they stand the same.
 fn compare_states(
     rt: &impl Abort,
     alarms: &Alarms,
@@ -330,8 +330,7 @@ fn compare_states(
     world: &World,
 ) -> Result<Alarms, Fail> {
     let alloc = world.alloc;
-    let bytes = bytes_of(alarms)?;
-    let kept = read_alarms(alloc, bytes.as_slice())?;
+    let kept = kept_of(alarms)?;
     let states = kept_lines(alloc, kept.states.as_slice())?;
     assert_eq!(rt;
         states.as_str(),
@@ -339,12 +338,14 @@ fn compare_states(
         "{}",
         world.moment
     );
-    let restored = alarms_of(alloc, bytes.as_slice(), registry)?;
-    assert_eq!(rt; bytes_of(&restored)?.as_slice(), bytes.as_slice());
+    let restored = alarms_of(alloc, &kept, registry)?;
+    let again = kept_of(&restored)?;
+    let states_again = kept_lines(alloc, again.states.as_slice())?;
+    assert_eq!(rt; states_again.as_str(), states.as_str());
     Ok(restored)
 }
 
-/// Compares what a call told and how the alarms stand. It gives the alarms of their bytes.
+/// Compares what a call told and how the alarms stand. It gives the alarms of what is kept of them.
 fn compare(
     rt: &impl Abort,
     alarms: &Alarms,
@@ -543,7 +544,7 @@ fn beat(
     compare(rt, alarms, registry, world, &events)
 }
 
-/// A random step. The alarms behind it are those of their bytes.
+/// A random step. The alarms behind it are those of what is kept of them.
 fn step(
     rt: &impl Abort,
     draws: &mut Draws,

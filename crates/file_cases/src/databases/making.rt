@@ -9,7 +9,8 @@ use fixed_num::ListOf;
 use host_model::{CallList, MemoryHost};
 use std::alloc::Global;
 use std::test::Fail;
-use store_core::disk::{FilesFault, Sealed, create, open};
+use store_core::OpenFault;
+use store_core::disk::{Sealed, create, open};
 
 /// The bytes of a body that keeps nothing: the version, the id, and of each tier 4 items and 4 extents.
 fn body_bytes() -> [u8; 125] {
@@ -23,21 +24,21 @@ fn body_bytes() -> [u8; 125] {
 }
 
 /// The body of these bytes, if it names no extent.
-fn empty_body(alloc: Global) -> Result<Body, FilesFault>
+fn empty_body(alloc: Global) -> Result<Body, OpenFault>
     ensures spelt { IfOk result HasSpelling }
     ensures none { IfOk result NamesNone }
 {
     let Ok(body) = read_body(alloc, body_bytes().as_slice()) else {
-        return Err(FilesFault::Memory);
+        return Err(OpenFault::Memory);
     };
     if !body.points.extents.is_empty() {
-        return Err(FilesFault::Damaged(2));
+        return Err(OpenFault::Damaged(2));
     }
     if !body.minutes.extents.is_empty() {
-        return Err(FilesFault::Damaged(2));
+        return Err(OpenFault::Damaged(2));
     }
     if !body.hours.extents.is_empty() {
-        return Err(FilesFault::Damaged(2));
+        return Err(OpenFault::Damaged(2));
     }
     Ok(body)
 }

@@ -5,7 +5,8 @@ use fixed_num::ByteList;
 use host_model::{CallList, File, Host, MemoryHost};
 use std::alloc::{AllocError, Global};
 use std::test::Fail;
-use store_core::disk::{FilesFault, Opened, open};
+use store_core::OpenFault;
+use store_core::disk::{Opened, open};
 
 /// Adds numbers of 32 bits.
 fn add_all(out: &mut ByteList, numbers: &[u32]) -> Result<(), AllocError> {
@@ -148,7 +149,7 @@ fn a_part_that_is_damaged_is_named(rt: HostRuntime) -> Result<(), Fail> {
     for (version, size, journal, part) in ROWS {
         let mut host = database(rt.alloc(), version, size, journal)?;
         let fault = open(rt.alloc(), &mut host).err();
-        assert_eq!(rt; fault, Some(FilesFault::Damaged(part)));
+        assert_eq!(rt; fault, Some(OpenFault::Damaged(part)));
     }
     Ok(())
 }

@@ -12,11 +12,11 @@ fn run(alloc: Global, host: &mut MemoryHost) -> Option<u64> {
 }
 
 /// How many beats there are, or that there is no database.
-fn found(alloc: Global, host: &mut MemoryHost) -> Result<Option<u64>, StoreFault> {
+fn found(alloc: Global, host: &mut MemoryHost) -> Result<Option<u64>, Fail> {
     let mut store = match Store::open(alloc, host) {
         Ok(store) => store,
-        Err(StoreFault::NotADatabase) => return Ok(None),
-        Err(fault) => return Err(fault),
+        Err(OpenFault::NotADatabase) => return Ok(None),
+        Err(fault) => return Err(Fail::from(fault)),
     };
     for _ in 0..6 {
         store.replay()?;

@@ -64,7 +64,7 @@ fn are_same(before: &[Vec<u8>], after: &[Vec<u8>]) -> bool {
 }
 
 /// Opens the database and adds five beats, of which the third fills a segment. A checkpoint is made where one is due.
-fn go_on(alloc: Global, host: &mut MemoryHost) -> Result<Store, StoreFault> {
+fn go_on(alloc: Global, host: &mut MemoryHost) -> Result<Store, Fail> {
     let mut store = open_whole(alloc, host)?;
     let more = [(10, 1), (11, 1), (12, 1), (13, 1), (14, 1)];
     add(alloc, &mut store, host, more.as_slice())?;
@@ -94,7 +94,7 @@ fn what_beats_leave_makes_a_checkpoint(rt: HostRuntime) -> Result<(), Fail> {
 }
 
 /// Why the database of nine beats is not opened with these bytes in these files from this place on.
-fn refused_with(alloc: Global, files: [File; 2], place: u64) -> Result<Option<StoreFault>, Fail> {
+fn refused_with(alloc: Global, files: [File; 2], place: u64) -> Result<Option<OpenFault>, Fail> {
     let mut host = new_host(alloc)?;
     let _store = made(alloc, &mut host, NINE.as_slice())?;
     for file in files {
@@ -106,10 +106,10 @@ fn refused_with(alloc: Global, files: [File; 2], place: u64) -> Result<Option<St
 #[test]
 fn the_first_part_that_is_in_no_form_is_told(rt: HostRuntime) -> Result<(), Fail> {
     let body = refused_with(rt.alloc(), [File::CheckA, File::CheckB], BODY)?;
-    assert_eq!(rt; body, Some(StoreFault::Damaged(2)));
+    assert_eq!(rt; body, Some(OpenFault::Damaged(2)));
     let extent = refused_with(rt.alloc(), [File::Tier0, File::Tier0], SLOT)?;
-    assert_eq!(rt; extent, Some(StoreFault::Damaged(3)));
+    assert_eq!(rt; extent, Some(OpenFault::Damaged(3)));
     let journal = refused_with(rt.alloc(), [File::JournalA, File::JournalB], 0)?;
-    assert_eq!(rt; journal, Some(StoreFault::Damaged(4)));
+    assert_eq!(rt; journal, Some(OpenFault::Damaged(4)));
     Ok(())
 }

@@ -116,7 +116,7 @@ fn advance(alloc: Global, running: &mut Running) -> Result<(), StoreFault>
 }
 
 /// Replays the next beat, if there is one.
-fn next_beat(store: &mut Store, host: &MemoryHost) -> Result<Option<Beat>, StoreFault>
+fn next_beat(store: &mut Store, host: &MemoryHost) -> Result<Option<Beat>, AllocError>
     requires ready { IsReadyOn host.now store.old }
     ensures ready { OnOk result (IsReadyOn host.now store.new) }
     ensures takes { IfOk result
@@ -129,7 +129,7 @@ fn next_beat(store: &mut Store, host: &MemoryHost) -> Result<Option<Beat>, Store
 }
 
 /// Replays the next beat, and whether there was one.
-fn replay_next(store: &mut Store, host: &MemoryHost) -> Result<bool, StoreFault>
+fn replay_next(store: &mut Store, host: &MemoryHost) -> Result<bool, AllocError>
     requires ready { IsReadyOn host.now store.old }
     ensures ready { OnOk result (IsReadyOn host.now store.new) }
     ensures replayed { IfOk result (λ went. went ≡ false → IsReplayed store.new) }
@@ -141,7 +141,7 @@ fn replay_next(store: &mut Store, host: &MemoryHost) -> Result<bool, StoreFault>
 }
 
 /// Opens the database, and replays the beats since its checkpoint.
-pub fn open_whole(alloc: Global, host: &mut MemoryHost) -> Result<Store, StoreFault>
+pub fn open_whole(alloc: Global, host: &mut MemoryHost) -> Result<Store, Fail>
     ensures ready { IfOk result (IsReadyOn host.new) }
     ensures replayed { IfOk result IsReplayed }
 {
@@ -151,11 +151,11 @@ pub fn open_whole(alloc: Global, host: &mut MemoryHost) -> Result<Store, StoreFa
             return Ok(store);
         }
     }
-    Err(StoreFault::Memory)
+    Err(Fail::from("more than 99 beats wait"))
 }
 
 /// Opens the database again.
-fn open_again(alloc: Global, running: &mut Running) -> Result<(), StoreFault>
+fn open_again(alloc: Global, running: &mut Running) -> Result<(), Fail>
     ensures going { OnOk result (IsGoingOn running.new.host running.new.store) }
 {
     running.store = open_whole(alloc, &mut running.host)?;
@@ -164,13 +164,13 @@ fn open_again(alloc: Global, running: &mut Running) -> Result<(), StoreFault>
 
 /// What may come between two beats: a beat without a moment, a checkpoint, or the database is opened
 /// again.
-fn turn(alloc: Global, running: &mut Running, choice: u32) -> Result<(), StoreFault>
+fn turn(alloc: Global, running: &mut Running, choice: u32) -> Result<(), Fail>
     requires going { IsGoingOn running.old.host running.old.store }
     ensures going { OnOk result (IsGoingOn running.new.host running.new.store) }
 {
     match choice {
-        0 => give_untimed(alloc, running),
-        1 => advance(alloc, running),
+        0 => Ok(give_untimed(alloc, running)?),
+        1 => Ok(advance(alloc, running)?),
         2 | 3 => open_again(alloc, running),
         _ => Ok(()),
     }

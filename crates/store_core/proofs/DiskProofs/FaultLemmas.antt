@@ -9,12 +9,14 @@ use Rattle.checkpoint_body.specs.declared.fault.BodyFault.TheVariants as body
 use Rattle.checkpoint_body.specs.Body.{IsNoSpelling}
 use Rattle.extent_file.specs.declared.fault.ExtentFault.{ExtentFault}
 use Rattle.extent_file.specs.declared.fault.ExtentFault.TheVariants as extent
+use Rattle.extent_file.specs.declared.fault.WriteFault.{WriteFault}
+use Rattle.extent_file.specs.declared.fault.WriteFault.TheVariants as write
 use Rattle.journal_core.specs.declared.fault.JournalFault.{JournalFault}
 use Rattle.journal_core.specs.declared.fault.JournalFault.TheVariants as journal
-use Rattle.store_core.specs.declared.disk.fault.FilesFault.{FilesFault}
-use Rattle.store_core.specs.declared.disk.fault.FilesFault.TheVariants.{DiskFault, NotADatabase, Damaged, Memory}
-use Rattle.store_core.specs.disk.Faults.{fault_of_body, fault_of_check, fault_of_extent, fault_of_journal}
-use Rattle.store_core.specs.disk.Opening.{IsOpenFault}
+use Rattle.store_core.specs.declared.disk.fault.FilesFault.TheVariants as files
+use Rattle.store_core.specs.declared.fault.OpenFault.TheVariants.{DiskFault, NotADatabase, Damaged}
+use Rattle.store_core.specs.disk.Faults.{fault_of_body, fault_of_check, fault_of_extent, fault_of_journal, fault_of_write}
+use Rattle.store_core.specs.Faults.{IsOpenFault}
 use Rattle.store_core.specs.disk.Reading.{IsExtentFault}
 
 -- a count of failures has the same cause, said in another way
@@ -82,12 +84,6 @@ extent_disk extent.DiskFault is = refl
 extent_disk (extent.BadExtent place) is = cc
 extent_disk extent.Memory is = cc
 
--- one that is written is not bad
-pub extent_written : (fault : ExtentFault) → ((place : ℕ) → fault ≡ extent.BadExtent place → ⊥) → (fault_of_extent fault ≡ DiskFault) ⊎ (fault_of_extent fault ≡ Memory)
-extent_written extent.DiskFault not_bad = inl refl
-extent_written (extent.BadExtent place) not_bad = absurd (not_bad place refl)
-extent_written extent.Memory not_bad = inr refl
-
 pub extent_damaged : (fault : ExtentFault) (part : ℕ) → fault_of_extent fault ≡ Damaged part → (place : ℕ) × (fault ≡ extent.BadExtent place)
 extent_damaged extent.DiskFault part is = cc
 extent_damaged (extent.BadExtent place) part is = (place, refl)
@@ -97,6 +93,11 @@ pub extent_reads : (fault : ExtentFault) → IsExtentFault (fault_of_extent faul
 extent_reads extent.DiskFault = inl refl
 extent_reads (extent.BadExtent place) = inr (inr refl)
 extent_reads extent.Memory = inr (inl refl)
+
+-- one that is written
+write_disk : (fault : WriteFault) → fault_of_write fault ≡ files.DiskFault → fault ≡ write.DiskFault
+write_disk write.DiskFault is = refl
+write_disk write.Memory is = cc
 
 -- ---- the journal
 journal_disk : (fault : JournalFault) → fault_of_journal fault ≡ DiskFault → fault ≡ journal.DiskFault
@@ -130,6 +131,11 @@ module _ {T U : Type 0} (old new : ℕ) where
   extent_cause fault =
       same_cause old new (λ disk. let is : fault ≡ extent.DiskFault = cc in ap (λ (f : ExtentFault). Err (fault_of_extent f)) is)
       (λ disk. let is : fault_of_extent fault ≡ DiskFault = cc in ap (λ (f : ExtentFault). Err f) (extent_disk fault is))
+
+  pub write_cause : (fault : WriteFault) → HasCause old new (IsErrOf {T = T} (Err fault) write.DiskFault) → HasCause old new (IsErrOf {T = U} (Err (fault_of_write fault)) files.DiskFault)
+  write_cause fault =
+      same_cause old new (λ disk. let is : fault ≡ write.DiskFault = cc in ap (λ (f : WriteFault). Err (fault_of_write f)) is)
+      (λ disk. let is : fault_of_write fault ≡ files.DiskFault = cc in ap (λ (f : WriteFault). Err f) (write_disk fault is))
 
   pub journal_cause : (fault : JournalFault) → HasCause old new (IsErrOf {T = T} (Err fault) journal.DiskFault) → HasCause old new (IsErrOf {T = U} (Err (fault_of_journal fault)) DiskFault)
   journal_cause fault =

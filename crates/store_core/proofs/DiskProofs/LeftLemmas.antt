@@ -1,5 +1,5 @@
 -- Extents in their form, whatever stands in their pages, and which part keeps a disk from being in form.
-use Rattle.std.proofs.Common.{◌≡◌, ℕ, zero, suc, ◌+◌, ◌*◌, ◌<◌, ◌≤◌, List, [], ◌∷◌, length, get_or, Result, Ok, Err, sym, ap, ◌∙◌, subst, inl, inr, arith}
+use Rattle.std.proofs.Common.{◌≡◌, ℕ, zero, suc, ◌+◌, ◌*◌, ◌<◌, ◌≤◌, List, [], ◌∷◌, length, get_or, Result, Ok, Err, sym, ◌∙◌, subst, inl, inr, arith}
 use Rattle.std.specs.Result.{IfErr, IsErrOf, OnOk}
 use Rattle.std.proofs.lemmas.Result.{IfErr-at_err}
 use Rattle.host_model.specs.declared.file.File.{File}
@@ -12,9 +12,8 @@ use Rattle.journal_core.specs.Journal.{IsOpen, JournalState}
 use Rattle.checkpoint_body.specs.declared.body.Body.{Body}
 use Rattle.checkpoint_body.specs.declared.body.Extent.{Extent}
 use Rattle.store_core.specs.Damaged.{IsDamagedIn}
-use Rattle.store_core.specs.declared.beats.beat.Beat.{Beat}
-use Rattle.store_core.specs.declared.disk.fault.FilesFault.{FilesFault}
-use Rattle.store_core.specs.declared.disk.fault.FilesFault.TheVariants.{DiskFault, Damaged, Memory}
+use Rattle.store_core.specs.declared.fault.OpenFault.{OpenFault}
+use Rattle.store_core.specs.declared.fault.OpenFault.TheVariants.{DiskFault, Damaged, Memory}
 use Rattle.store_core.specs.disk.Damaged.{IsDamagedAt}
 use Rattle.store_core.specs.disk.Formed.{AllFormed, AreFormed, HasFiles, IsFormed}
 use Rattle.store_core.specs.disk.Holds.{journal_file, HasCheckpoint, Lie}
@@ -44,12 +43,12 @@ pub always : {T E P : Type 0} (result : Result T E) → P → OnOk result P
 always (Ok value) held = held
 always (Err fault) held = tt
 
-pub page_fault : (fault : FilesFault) → IsPageFault fault → IsExtentFault fault
+pub page_fault : (fault : OpenFault) → IsPageFault fault → IsExtentFault fault
 page_fault fault (inl failed) = inl failed
 page_fault fault (inr full) = inr (inl full)
 
 -- no page is damaged where its bytes may be anything
-pub never_a_page : {T : Type 0} (result : Result T FilesFault) → IfErr result IsPageFault → IsErrOf result (Damaged 3) → ⊥
+pub never_a_page : {T : Type 0} (result : Result T OpenFault) → IfErr result IsPageFault → IsErrOf result (Damaged 3) → ⊥
 never_a_page result faults is = by (IfErr-at_err IsPageFault is faults)
   where
     by : IsPageFault (Damaged 3) → ⊥
@@ -65,7 +64,7 @@ early_part (suc (suc zero)) disk early damaged = damaged
 early_part (suc (suc (suc part))) disk early damaged = absurd (omega (arith, early))
 
 -- a fault of the extents of a body names the part of the extents
-pub directory_part : (part : ℕ) (fault : FilesFault) (disk : File → List ℕ) (number : ℕ) (body : Body) → fault ≡ Damaged part → IsExtentFault fault → HasCheckpoint number body disk
+pub directory_part : (part : ℕ) (fault : OpenFault) (disk : File → List ℕ) (number : ℕ) (body : Body) → fault ≡ Damaged part → IsExtentFault fault → HasCheckpoint number body disk
     → (fault ≡ Damaged 3 → AreFormed body disk → ⊥) → IsDamagedIn part disk
 directory_part part fault disk number body is (inl failed) checkpoint none = absurd (let e : Damaged part ≡ DiskFault = sym is ∙ failed in cc)
 directory_part part fault disk number body is (inr (inl full)) checkpoint none = absurd (let e : Damaged part ≡ Memory = sym is ∙ full in cc)

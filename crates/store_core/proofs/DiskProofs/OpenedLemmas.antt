@@ -12,13 +12,14 @@ use Rattle.checkpoint.specs.Files.{checkpoint_in, new_slot}
 use Rattle.checkpoint.proofs.SlotLemmas.{checkpoint_in-same}
 use Rattle.checkpoint_body.specs.declared.body.Body.{Body}
 use Rattle.checkpoint_body.specs.Body.{body_bytes}
-use Rattle.store_core.specs.declared.disk.fault.FilesFault.{FilesFault}
-use Rattle.store_core.specs.declared.disk.fault.FilesFault.TheVariants.{DiskFault, Exists, NotADatabase, Damaged, Memory}
+use Rattle.store_core.specs.declared.fault.OpenFault.{OpenFault}
+use Rattle.store_core.specs.declared.fault.OpenFault.TheVariants.{DiskFault, NotADatabase, Damaged, Memory}
 use Rattle.store_core.specs.disk.Contents.{Contents, KeptPages}
 use Rattle.store_core.specs.disk.Damaged.{IsDamagedAt}
 use Rattle.store_core.specs.disk.Files.{FilesState, IsOpenOf}
 use Rattle.store_core.specs.disk.Holds.{items_of, journal_file, page_of_records, page_of_slots, AreKept, HasCheckpoint, Holds, Lie}
-use Rattle.store_core.specs.disk.Opening.{AreFixed, IsOpenFault}
+use Rattle.store_core.specs.disk.Opening.{AreFixed}
+use Rattle.store_core.specs.Faults.{IsOpenFault}
 use Rattle.store_core.specs.disk.Reading.{IsExtentFault}
 use Rattle.store_core.proofs.DiskProofs.OneLemmas.{never_damaged}
 
@@ -93,22 +94,21 @@ no_database contents disk holds none = differ (sym holds.checkpoint.checkpoint �
     differ : new_slot contents.number (body_bytes contents.body) ≡ None → ⊥
     differ same = cc
 
-pub extent_fault : (fault : FilesFault) → IsExtentFault fault → IsOpenFault fault
+pub extent_fault : (fault : OpenFault) → IsExtentFault fault → IsOpenFault fault
 extent_fault fault (inl failed) = subst IsOpenFault (sym failed) tt
 extent_fault fault (inr (inl full)) = subst IsOpenFault (sym full) tt
 extent_fault fault (inr (inr three)) = subst IsOpenFault (sym three) (omega arith, omega arith)
 
 -- of a database that is whole only the disk and memory fail
-pub whole_fault : (disk : File → List ℕ) (fault : FilesFault) → IsOpenFault fault → (fault ≡ NotADatabase → checkpoint_in disk ≡ None)
+pub whole_fault : (disk : File → List ℕ) (fault : OpenFault) → IsOpenFault fault → (fault ≡ NotADatabase → checkpoint_in disk ≡ None)
     → ((part : ℕ) → fault ≡ Damaged part → IsDamagedAt part disk) → (contents : Contents) → Holds contents disk → (fault ≡ DiskFault) ⊎ (fault ≡ Memory)
 whole_fault disk DiskFault opens none damaged contents holds = inl refl
-whole_fault disk Exists opens none damaged contents holds = absurd opens
 whole_fault disk NotADatabase opens none damaged contents holds = absurd (no_database contents disk holds (none refl))
 whole_fault disk (Damaged part) opens none damaged contents holds = absurd (never_damaged part contents disk holds (damaged part refl))
 whole_fault disk Memory opens none damaged contents holds = inr refl
 
 -- a fault of the extents of a body names the part of the extents
-pub extent_part : (part : ℕ) (fault : FilesFault) (disk : File → List ℕ) (number : ℕ) (body : Body) → fault ≡ Damaged part → IsExtentFault fault → HasCheckpoint number body disk
+pub extent_part : (part : ℕ) (fault : OpenFault) (disk : File → List ℕ) (number : ℕ) (body : Body) → fault ≡ Damaged part → IsExtentFault fault → HasCheckpoint number body disk
     → (fault ≡ Damaged 3 → (kept : KeptPages) → AreKept body kept disk → ⊥) → IsDamagedAt part disk
 extent_part part fault disk number body is (inl failed) checkpoint none = absurd (let e : Damaged part ≡ DiskFault = sym is ∙ failed in cc)
 extent_part part fault disk number body is (inr (inl full)) checkpoint none = absurd (let e : Damaged part ≡ Memory = sym is ∙ full in cc)

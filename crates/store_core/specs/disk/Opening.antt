@@ -1,22 +1,12 @@
 -- What opening does to the disk: it makes what the files read as hold.
-use Rattle.std.specs.Prelude.{◌≡◌, ◌≤◌, List}
+use Rattle.std.specs.Prelude.{◌≡◌, List}
 use Rattle.host_model.specs.declared.file.File.{File}
 use Rattle.host_model.specs.declared.file.File.TheVariants.{CheckA, CheckB, Tier0, Tier1, Tier2}
 use Rattle.host_model.specs.Images.{IsSynced}
 use Rattle.host_model.specs.Past.{Event, of, IsDisk}
 use Rattle.host_model.specs.Disks.{reads_as, EveryDisk}
 use Rattle.host_model.specs.Moments.{Throughout}
-use Rattle.store_core.specs.declared.disk.fault.FilesFault.{FilesFault}
-use Rattle.store_core.specs.declared.disk.fault.FilesFault.TheVariants.{DiskFault, Exists, NotADatabase, Damaged, Memory}
 use Rattle.store_core.specs.disk.Holds.{OnlyOwn}
-
--- why a database is not opened
-abbrev pub IsOpenFault : FilesFault → Type 0
-IsOpenFault DiskFault = Unit {0}
-IsOpenFault Exists = ⊥
-IsOpenFault NotADatabase = Unit {0}
-IsOpenFault (Damaged part) = (1 ≤ part) × (part ≤ 4)
-IsOpenFault Memory = Unit {0}
 
 -- nothing but syncs happened, to files of the database
 pub record OnlySyncs (old new : List Event) : Type 0 where

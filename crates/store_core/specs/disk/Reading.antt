@@ -6,8 +6,8 @@ use Rattle.tier_settings.specs.declared.limits.TheConstants.{MOST_EXTENTS}
 use Rattle.extent_file.specs.Directory.{bytes_of}
 use Rattle.extent_file.specs.Pages.{entry_of, IsItemsOf}
 use Rattle.checkpoint_body.specs.declared.body.Extent.{Extent}
-use Rattle.store_core.specs.declared.disk.fault.FilesFault.{FilesFault}
-use Rattle.store_core.specs.declared.disk.fault.FilesFault.TheVariants.{DiskFault, Damaged, Memory}
+use Rattle.store_core.specs.declared.fault.OpenFault.{OpenFault}
+use Rattle.store_core.specs.declared.fault.OpenFault.TheVariants.{DiskFault, Damaged, Memory}
 
 -- the page is the one of this entry: it has its head, and its items stand where the entry says
 pub record IsNamed (tier : ℕ) (bytes : List ℕ) (entry : Entry) (page : Page) : Type 0 where
@@ -26,9 +26,9 @@ abbrev pub HasSlot : Extent → Type 0
 HasSlot extent = extent.slot ≤ MOST_EXTENTS
 
 -- why an extent is not read
-abbrev pub IsExtentFault : FilesFault → Type 0
+abbrev pub IsExtentFault : OpenFault → Type 0
 IsExtentFault fault = (fault ≡ DiskFault) ⊎ (fault ≡ Memory) ⊎ (fault ≡ Damaged 3)
 
 -- why a page is not read, where its bytes may be anything
-abbrev pub IsPageFault : FilesFault → Type 0
+abbrev pub IsPageFault : OpenFault → Type 0
 IsPageFault fault = (fault ≡ DiskFault) ⊎ (fault ≡ Memory)

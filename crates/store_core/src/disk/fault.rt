@@ -1,10 +1,12 @@
 ghost use Rattle.std.specs.Prelude.{◌≡◌};
-ghost use Rattle.store_core.specs.disk.Faults.{fault_of_body, fault_of_check, fault_of_extent, fault_of_journal};
+ghost use Rattle.store_core.specs.disk.Faults.{fault_of_body, fault_of_check, fault_of_extent, fault_of_journal, fault_of_write};
 ghost use Rattle.store_core.specs.declared.disk.fault.FilesFault.TheVariants.{DiskFault, Memory};
+ghost use Rattle.store_core.specs.declared.fault.OpenFault.TheVariants as opening;
 
+use crate::fault::OpenFault;
 use checkpoint::CheckFault;
 use checkpoint_body::BodyFault;
-use extent_file::ExtentFault;
+use extent_file::{ExtentFault, WriteFault};
 use host_model::Failed;
 use journal_core::JournalFault;
 use page_pool::PoolFault;
@@ -23,23 +25,13 @@ pub(crate) const EXTENT_PART: u32 = 3;
 /// The part that is the journal.
 pub(crate) const JOURNAL_PART: u32 = 4;
 
-/// Why the files of a database were not made, opened or changed.
+/// Why the files of a database were not changed.
 #[derive(Clone, Copy, Debug, PartialEq, Eq, Error)]
 pub enum FilesFault {
     /// A call on the disk failed.
     #[error("the disk failed")]
     DiskFault,
-    /// There is a database already.
-    #[error("there is a database")]
-    Exists,
-    /// There is no database.
-    #[error("there is no database")]
-    NotADatabase,
-    /// A part of the database is damaged: 1 the file of its checkpoint, 2 the body of that, 3 an
-    /// extent that the body names, 4 the journal.
-    #[error("part {0} of the database is damaged")]
-    Damaged(u32),
-    /// Memory ran out.
+    /// There was no memory.
     #[error("out of memory")]
     Memory,
 }
@@ -76,50 +68,93 @@ impl From<PoolFault> for FilesFault {
     }
 }
 
-impl From<CheckFault> for FilesFault {
+impl From<WriteFault> for FilesFault {
+    ghost from_gives = { λ fault given. given ≡ fault_of_write fault };
+
+    fn from(fault: WriteFault) -> FilesFault {
+        match fault {
+            WriteFault::DiskFault => FilesFault::DiskFault,
+            WriteFault::Memory => FilesFault::Memory,
+        }
+    }
+}
+
+impl From<Failed> for OpenFault {
+    ghost from_gives = { λ _ fault. fault ≡ opening.DiskFault };
+
+    fn from(_error: Failed) -> OpenFault {
+        OpenFault::DiskFault
+    }
+}
+
+impl From<AllocError> for OpenFault {
+    ghost from_gives = { λ _ fault. fault ≡ opening.Memory };
+
+    fn from(_error: AllocError) -> OpenFault {
+        OpenFault::Memory
+    }
+}
+
+impl<T: Drop> From<AllocFailed<T>> for OpenFault {
+    ghost from_gives = { λ _ fault. fault ≡ opening.Memory };
+
+    fn from(_error: AllocFailed<T>) -> OpenFault {
+        OpenFault::Memory
+    }
+}
+
+impl From<PoolFault> for OpenFault {
+    ghost from_gives = { λ _ fault. fault ≡ opening.Memory };
+
+    fn from(_error: PoolFault) -> OpenFault {
+        OpenFault::Memory
+    }
+}
+
+impl From<CheckFault> for OpenFault {
     ghost from_gives = { λ fault given. given ≡ fault_of_check fault };
 
-    fn from(fault: CheckFault) -> FilesFault {
+    fn from(fault: CheckFault) -> OpenFault {
         match fault {
-            CheckFault::DiskFault => FilesFault::DiskFault,
-            CheckFault::NoneOpen => FilesFault::NotADatabase,
-            CheckFault::BadSlot(_) => FilesFault::Damaged(FILE_PART),
-            CheckFault::Memory => FilesFault::Memory,
+            CheckFault::DiskFault => OpenFault::DiskFault,
+            CheckFault::NoneOpen => OpenFault::NotADatabase,
+            CheckFault::BadSlot(_) => OpenFault::Damaged(FILE_PART),
+            CheckFault::Memory => OpenFault::Memory,
         }
     }
 }
 
-impl From<BodyFault> for FilesFault {
+impl From<BodyFault> for OpenFault {
     ghost from_gives = { λ fault given. given ≡ fault_of_body fault };
 
-    fn from(fault: BodyFault) -> FilesFault {
+    fn from(fault: BodyFault) -> OpenFault {
         match fault {
-            BodyFault::BadBody => FilesFault::Damaged(BODY_PART),
-            BodyFault::Memory => FilesFault::Memory,
+            BodyFault::BadBody => OpenFault::Damaged(BODY_PART),
+            BodyFault::Memory => OpenFault::Memory,
         }
     }
 }
 
-impl From<ExtentFault> for FilesFault {
+impl From<ExtentFault> for OpenFault {
     ghost from_gives = { λ fault given. given ≡ fault_of_extent fault };
 
-    fn from(fault: ExtentFault) -> FilesFault {
+    fn from(fault: ExtentFault) -> OpenFault {
         match fault {
-            ExtentFault::DiskFault => FilesFault::DiskFault,
-            ExtentFault::BadExtent(_) => FilesFault::Damaged(EXTENT_PART),
-            ExtentFault::Memory => FilesFault::Memory,
+            ExtentFault::DiskFault => OpenFault::DiskFault,
+            ExtentFault::BadExtent(_) => OpenFault::Damaged(EXTENT_PART),
+            ExtentFault::Memory => OpenFault::Memory,
         }
     }
 }
 
-impl From<JournalFault> for FilesFault {
+impl From<JournalFault> for OpenFault {
     ghost from_gives = { λ fault given. given ≡ fault_of_journal fault };
 
-    fn from(fault: JournalFault) -> FilesFault {
+    fn from(fault: JournalFault) -> OpenFault {
         match fault {
-            JournalFault::DiskFault => FilesFault::DiskFault,
-            JournalFault::NotAJournal(_) => FilesFault::Damaged(JOURNAL_PART),
-            JournalFault::Memory => FilesFault::Memory,
+            JournalFault::DiskFault => OpenFault::DiskFault,
+            JournalFault::NotAJournal(_) => OpenFault::Damaged(JOURNAL_PART),
+            JournalFault::Memory => OpenFault::Memory,
         }
     }
 }

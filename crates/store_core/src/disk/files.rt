@@ -139,8 +139,6 @@ impl Files {
             → H.honest → IsWithin shares (H.seen host.old).past
             → Throughout (IsWithin shares) (H.seen host.old).past (H.seen host.new).past }
         ensures only_here { H.honest → OnlyOwn (H.seen host.old).past (H.seen host.new).past }
-        ensures faults { IfErr result
-            (λ fault. (fault ≡ FilesFault.DiskFault) ⊎ (fault ≡ FilesFault.Memory)) }
         ensures cause { HasCause (H.seen host.old).disk_faults (H.seen host.new).disk_faults
             (IsErrOf result FilesFault.DiskFault) }
         ensures output { (H.seen host.new).tell_faults ≡ (H.seen host.old).tell_faults }

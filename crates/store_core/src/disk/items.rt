@@ -1,14 +1,14 @@
 ghost use Rattle.std.specs.Prelude.{◌≡◌, IfOk, IfErr};
 
-use crate::disk::fault::FilesFault;
+use crate::fault::OpenFault;
 use checkpoint_body::{RecordList, WordList};
 use page_buffer::{RecordPage, SlotPage};
 use std::alloc::Global;
 
 /// The words of a page.
-pub(crate) fn words_in(alloc: Global, page: &SlotPage) -> Result<WordList, FilesFault>
+pub(crate) fn words_in(alloc: Global, page: &SlotPage) -> Result<WordList, OpenFault>
     ensures words { IfOk result (λ words. words ≡ page.now.items) }
-    ensures faults { IfErr result (λ fault. fault ≡ FilesFault.Memory) }
+    ensures faults { IfErr result (λ fault. fault ≡ OpenFault.Memory) }
 {
     let (_, _, _, count) = page.head();
     let mut words = WordList::new(alloc);
@@ -19,9 +19,9 @@ pub(crate) fn words_in(alloc: Global, page: &SlotPage) -> Result<WordList, Files
 }
 
 /// The records of a page.
-pub(crate) fn records_in(alloc: Global, page: &RecordPage) -> Result<RecordList, FilesFault>
+pub(crate) fn records_in(alloc: Global, page: &RecordPage) -> Result<RecordList, OpenFault>
     ensures records { IfOk result (λ records. records ≡ page.now.items) }
-    ensures faults { IfErr result (λ fault. fault ≡ FilesFault.Memory) }
+    ensures faults { IfErr result (λ fault. fault ≡ OpenFault.Memory) }
 {
     let (_, _, _, count) = page.head();
     let mut records = RecordList::new(alloc);

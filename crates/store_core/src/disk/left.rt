@@ -14,15 +14,17 @@ ghost use Rattle.store_core.specs.Damaged.{IsDamagedIn};
 ghost use Rattle.store_core.specs.disk.Files.{IsReady};
 ghost use Rattle.store_core.specs.disk.Formed.{AllFormed, AreFormed, HasFiles, IsFormed};
 ghost use Rattle.store_core.specs.disk.Holds.{HasCheckpoint};
-ghost use Rattle.store_core.specs.disk.Opening.{IsOpenFault, OnlySyncs};
+ghost use Rattle.store_core.specs.disk.Opening.{OnlySyncs};
+ghost use Rattle.store_core.specs.Faults.{IsOpenFault};
 ghost use Rattle.store_core.specs.disk.Reading.{HasSlot, IsExtentFault, IsPageFault};
 
-use crate::disk::fault::{EXTENT_PART, FilesFault};
+use crate::disk::fault::EXTENT_PART;
 use crate::disk::files::Files;
 use crate::disk::opening::{Loaded, load_checkpoint, open_journal, settle_tiers};
 use crate::disk::reading::{Kept, open_extent, read_record_page, read_slot_page};
 use crate::disk::slots::has_own_slots;
 use crate::disk::tier::items_of;
+use crate::fault::OpenFault;
 use checkpoint_body::{Body, Extent, RecordPage, RecordPageList, SlotPage, SlotPageList};
 use extent_file::Extent as OpenExtent;
 use fixed_num::ListOf;
@@ -52,18 +54,18 @@ fn left_slot_page<H: Host>(
     pool: &mut PagePool,
     extent: &OpenExtent,
     index: u32,
-) -> Result<Option<SlotPage>, FilesFault>
+) -> Result<Option<SlotPage>, OpenFault>
     requires tier { tier_of extent.now.file ≡ 0 }
     requires index { index < length extent.now.entries }
     ensures faults { IfErr result IsPageFault }
     ensures past { H.honest → (H.seen host.new).past ≡ (H.seen host.old).past }
     ensures cause { HasCause (H.seen host.old).disk_faults (H.seen host.new).disk_faults
-        (IsErrOf result FilesFault.DiskFault) }
+        (IsErrOf result OpenFault.DiskFault) }
     ensures output { (H.seen host.new).tell_faults ≡ (H.seen host.old).tell_faults }
 {
     match read_slot_page(alloc, host, pool, extent, index) {
         Ok(page) => Ok(Some(page)),
-        Err(FilesFault::Damaged(_)) => Ok(None),
+        Err(OpenFault::Damaged(_)) => Ok(None),
         Err(fault) => Err(fault),
     }
 }
@@ -75,18 +77,18 @@ fn left_record_page<H: Host>(
     pool: &mut PagePool,
     extent: &OpenExtent,
     index: u32,
-) -> Result<Option<RecordPage>, FilesFault>
+) -> Result<Option<RecordPage>, OpenFault>
     requires tier { 0 < tier_of extent.now.file }
     requires index { index < length extent.now.entries }
     ensures faults { IfErr result IsPageFault }
     ensures past { H.honest → (H.seen host.new).past ≡ (H.seen host.old).past }
     ensures cause { HasCause (H.seen host.old).disk_faults (H.seen host.new).disk_faults
-        (IsErrOf result FilesFault.DiskFault) }
+        (IsErrOf result OpenFault.DiskFault) }
     ensures output { (H.seen host.new).tell_faults ≡ (H.seen host.old).tell_faults }
 {
     match read_record_page(alloc, host, pool, extent, index) {
         Ok(page) => Ok(Some(page)),
-        Err(FilesFault::Damaged(_)) => Ok(None),
+        Err(OpenFault::Damaged(_)) => Ok(None),
         Err(fault) => Err(fault),
     }
 }
@@ -97,12 +99,12 @@ fn left_slot_pages<H: Host>(
     host: &mut H,
     pool: &mut PagePool,
     extent: &OpenExtent,
-) -> Result<SlotPageList, FilesFault>
+) -> Result<SlotPageList, OpenFault>
     requires { tier_of extent.now.file ≡ 0 }
     ensures faults { IfErr result IsPageFault }
     ensures past { H.honest → (H.seen host.new).past ≡ (H.seen host.old).past }
     ensures cause { HasCause (H.seen host.old).disk_faults (H.seen host.new).disk_faults
-        (IsErrOf result FilesFault.DiskFault) }
+        (IsErrOf result OpenFault.DiskFault) }
     ensures output { (H.seen host.new).tell_faults ≡ (H.seen host.old).tell_faults }
 {
     let mut pages = SlotPageList::new(alloc);
@@ -120,12 +122,12 @@ fn left_record_pages<H: Host>(
     host: &mut H,
     pool: &mut PagePool,
     extent: &OpenExtent,
-) -> Result<RecordPageList, FilesFault>
+) -> Result<RecordPageList, OpenFault>
     requires { 0 < tier_of extent.now.file }
     ensures faults { IfErr result IsPageFault }
     ensures past { H.honest → (H.seen host.new).past ≡ (H.seen host.old).past }
     ensures cause { HasCause (H.seen host.old).disk_faults (H.seen host.new).disk_faults
-        (IsErrOf result FilesFault.DiskFault) }
+        (IsErrOf result OpenFault.DiskFault) }
     ensures output { (H.seen host.new).tell_faults ≡ (H.seen host.old).tell_faults }
 {
     let mut pages = RecordPageList::new(alloc);
@@ -144,17 +146,17 @@ fn left_slots<H: Host>(
     pool: &mut PagePool,
     items: u32,
     extent: &Extent,
-) -> Result<SlotPageList, FilesFault>
+) -> Result<SlotPageList, OpenFault>
     requires items { items ≤ MOST_ITEMS }
     requires slot { HasSlot extent.now }
     ensures formed { OnOk result (H.honest
         → IsFormed 0 items (contents (of File.Tier0 (H.seen host.old).past)) extent.now) }
-    ensures damaged { IsErrOf result (FilesFault.Damaged 3) → H.honest
+    ensures damaged { IsErrOf result (OpenFault.Damaged 3) → H.honest
         → ¬ IsFormed 0 items (contents (of File.Tier0 (H.seen host.old).past)) extent.now }
     ensures faults { IfErr result IsExtentFault }
     ensures past { H.honest → (H.seen host.new).past ≡ (H.seen host.old).past }
     ensures cause { HasCause (H.seen host.old).disk_faults (H.seen host.new).disk_faults
-        (IsErrOf result FilesFault.DiskFault) }
+        (IsErrOf result OpenFault.DiskFault) }
     ensures output { (H.seen host.new).tell_faults ≡ (H.seen host.old).tell_faults }
 {
     let opened = open_extent(alloc, host, File::Tier0, items, extent)?;
@@ -169,18 +171,18 @@ fn left_records<H: Host>(
     file: File,
     items: u32,
     extent: &Extent,
-) -> Result<RecordPageList, FilesFault>
+) -> Result<RecordPageList, OpenFault>
     requires tier { 4 < file_number file }
     requires items { items ≤ MOST_ITEMS }
     requires slot { HasSlot extent.now }
     ensures formed { OnOk result (H.honest
         → IsFormed (tier_of file) items (contents (of file (H.seen host.old).past)) extent.now) }
-    ensures damaged { IsErrOf result (FilesFault.Damaged 3) → H.honest
+    ensures damaged { IsErrOf result (OpenFault.Damaged 3) → H.honest
         → ¬ IsFormed (tier_of file) items (contents (of file (H.seen host.old).past)) extent.now }
     ensures faults { IfErr result IsExtentFault }
     ensures past { H.honest → (H.seen host.new).past ≡ (H.seen host.old).past }
     ensures cause { HasCause (H.seen host.old).disk_faults (H.seen host.new).disk_faults
-        (IsErrOf result FilesFault.DiskFault) }
+        (IsErrOf result OpenFault.DiskFault) }
     ensures output { (H.seen host.new).tell_faults ≡ (H.seen host.old).tell_faults }
 {
     let opened = open_extent(alloc, host, file, items, extent)?;
@@ -194,17 +196,17 @@ fn left_points<H: Host>(
     pool: &mut PagePool,
     items: u32,
     extents: &[Extent],
-) -> Result<ListOf<SlotPageList>, FilesFault>
+) -> Result<ListOf<SlotPageList>, OpenFault>
     requires items { items ≤ MOST_ITEMS }
     requires slots { AllByRecursion HasSlot extents.now }
     ensures formed { OnOk result (H.honest
         → AllFormed 0 items (contents (of File.Tier0 (H.seen host.old).past)) extents.now) }
-    ensures damaged { IsErrOf result (FilesFault.Damaged 3) → H.honest
+    ensures damaged { IsErrOf result (OpenFault.Damaged 3) → H.honest
         → ¬ AllFormed 0 items (contents (of File.Tier0 (H.seen host.old).past)) extents.now }
     ensures faults { IfErr result IsExtentFault }
     ensures past { H.honest → (H.seen host.new).past ≡ (H.seen host.old).past }
     ensures cause { HasCause (H.seen host.old).disk_faults (H.seen host.new).disk_faults
-        (IsErrOf result FilesFault.DiskFault) }
+        (IsErrOf result OpenFault.DiskFault) }
     ensures output { (H.seen host.new).tell_faults ≡ (H.seen host.old).tell_faults }
 {
     let mut kept = ListOf::new(alloc);
@@ -223,18 +225,18 @@ fn left_tier<H: Host>(
     file: File,
     items: u32,
     extents: &[Extent],
-) -> Result<ListOf<RecordPageList>, FilesFault>
+) -> Result<ListOf<RecordPageList>, OpenFault>
     requires tier { 4 < file_number file }
     requires items { items ≤ MOST_ITEMS }
     requires slots { AllByRecursion HasSlot extents.now }
     ensures formed { OnOk result (H.honest
         → AllFormed (tier_of file) items (contents (of file (H.seen host.old).past)) extents.now) }
-    ensures damaged { IsErrOf result (FilesFault.Damaged 3) → H.honest
+    ensures damaged { IsErrOf result (OpenFault.Damaged 3) → H.honest
         → ¬ AllFormed (tier_of file) items (contents (of file (H.seen host.old).past)) extents.now }
     ensures faults { IfErr result IsExtentFault }
     ensures past { H.honest → (H.seen host.new).past ≡ (H.seen host.old).past }
     ensures cause { HasCause (H.seen host.old).disk_faults (H.seen host.new).disk_faults
-        (IsErrOf result FilesFault.DiskFault) }
+        (IsErrOf result OpenFault.DiskFault) }
     ensures output { (H.seen host.new).tell_faults ≡ (H.seen host.old).tell_faults }
 {
     let mut kept = ListOf::new(alloc);
@@ -246,20 +248,20 @@ fn left_tier<H: Host>(
 }
 
 /// The pages that the extents of a body have.
-fn read_left<H: Host>(alloc: Global, host: &mut H, body: &Body) -> Result<Kept, FilesFault>
+fn read_left<H: Host>(alloc: Global, host: &mut H, body: &Body) -> Result<Kept, OpenFault>
     requires { HasSpelling body.now }
     ensures formed { OnOk result (H.honest
         → AreFormed body.now (reads_as (H.seen host.old).past)) }
-    ensures damaged { IsErrOf result (FilesFault.Damaged 3) → H.honest
+    ensures damaged { IsErrOf result (OpenFault.Damaged 3) → H.honest
         → ¬ AreFormed body.now (reads_as (H.seen host.old).past) }
     ensures faults { IfErr result IsExtentFault }
     ensures past { H.honest → (H.seen host.new).past ≡ (H.seen host.old).past }
     ensures cause { HasCause (H.seen host.old).disk_faults (H.seen host.new).disk_faults
-        (IsErrOf result FilesFault.DiskFault) }
+        (IsErrOf result OpenFault.DiskFault) }
     ensures output { (H.seen host.new).tell_faults ≡ (H.seen host.old).tell_faults }
 {
     if !has_own_slots(body) {
-        return Err(FilesFault::Damaged(EXTENT_PART));
+        return Err(OpenFault::Damaged(EXTENT_PART));
     }
     let mut pool = PagePool::new(alloc);
     let points = left_points(
@@ -293,21 +295,21 @@ fn read_left<H: Host>(alloc: Global, host: &mut H, body: &Body) -> Result<Kept, 
 }
 
 /// Loads the checkpoint that counts, and reads what is left in the extents that it names.
-fn load_left<H: Host>(alloc: Global, host: &mut H) -> Result<Loaded, FilesFault>
+fn load_left<H: Host>(alloc: Global, host: &mut H) -> Result<Loaded, OpenFault>
     ensures loaded { IfOk result (λ found. H.honest
         → HasCheckpoint found.checkpoint.number found.checkpoint.body
         (reads_as (H.seen host.old).past)) }
     ensures spelt { IfOk result (λ found. HasSpelling found.checkpoint.body) }
     ensures formed { IfOk result (λ found. H.honest
         → AreFormed found.checkpoint.body (reads_as (H.seen host.old).past)) }
-    ensures none { IsErrOf result FilesFault.NotADatabase → H.honest
+    ensures none { IsErrOf result OpenFault.NotADatabase → H.honest
         → checkpoint_in (reads_as (H.seen host.old).past) ≡ None }
-    ensures damaged { (part : ℕ) → IsErrOf result (FilesFault.Damaged part) → H.honest
+    ensures damaged { (part : ℕ) → IsErrOf result (OpenFault.Damaged part) → H.honest
         → IsDamagedIn part (reads_as (H.seen host.old).past) }
     ensures faults { IfErr result IsOpenFault }
     ensures syncs { H.honest → OnlySyncs (H.seen host.old).past (H.seen host.new).past }
     ensures cause { HasCause (H.seen host.old).disk_faults (H.seen host.new).disk_faults
-        (IsErrOf result FilesFault.DiskFault) }
+        (IsErrOf result OpenFault.DiskFault) }
     ensures output { (H.seen host.new).tell_faults ≡ (H.seen host.old).tell_faults }
 {
     let checkpoint = load_checkpoint(alloc, host)?;
@@ -318,19 +320,19 @@ fn load_left<H: Host>(alloc: Global, host: &mut H) -> Result<Loaded, FilesFault>
 
 /// Opens the files of a database whose disk is in form, and reads what is left in its extents. It
 /// syncs its files, and else only reads. `Damaged` has the first part that is not in form.
-pub fn open_left<H: Host>(alloc: Global, host: &mut H) -> Result<Left, FilesFault>
+pub fn open_left<H: Host>(alloc: Global, host: &mut H) -> Result<Left, OpenFault>
     ensures formed { IfOk result (λ left. H.honest → HasFiles left.files.number left.body
         left.records (reads_as (H.seen host.old).past)) }
     ensures spelt { IfOk result (λ left. HasSpelling left.body) }
     ensures ready { IfOk result (λ left. IsReady H.honest (H.seen host.new).past left.files) }
-    ensures none { IsErrOf result FilesFault.NotADatabase → H.honest
+    ensures none { IsErrOf result OpenFault.NotADatabase → H.honest
         → checkpoint_in (reads_as (H.seen host.old).past) ≡ None }
-    ensures damaged { (part : ℕ) → IsErrOf result (FilesFault.Damaged part) → H.honest
+    ensures damaged { (part : ℕ) → IsErrOf result (OpenFault.Damaged part) → H.honest
         → IsDamagedIn part (reads_as (H.seen host.old).past) }
     ensures faults { IfErr result IsOpenFault }
     ensures syncs { H.honest → OnlySyncs (H.seen host.old).past (H.seen host.new).past }
     ensures cause { HasCause (H.seen host.old).disk_faults (H.seen host.new).disk_faults
-        (IsErrOf result FilesFault.DiskFault) }
+        (IsErrOf result OpenFault.DiskFault) }
     ensures output { (H.seen host.new).tell_faults ≡ (H.seen host.old).tell_faults }
 {
     let loaded = load_left(alloc, host)?;

@@ -16,20 +16,20 @@ ghost use Rattle.store_core.specs.disk.Holds.{HoldsIfMade, OnlyOwn};
 ghost use Rattle.store_core.specs.disk.Shares.{HasRoom, IsWithin};
 
 use crate::disk::beginning::{begin, begun_journal};
-use crate::disk::fault::FilesFault;
 use crate::disk::files::Files;
+use crate::fault::CreateFault;
 use checkpoint::{CheckFault, load};
 use checkpoint_body::{Body, write_body};
 use host_model::Host;
 use std::alloc::Global;
 
 /// `Exists` where there is a checkpoint. The disk is only read and synced.
-fn expect_none<H: Host>(alloc: Global, host: &mut H) -> Result<(), FilesFault>
+fn expect_none<H: Host>(alloc: Global, host: &mut H) -> Result<(), CreateFault>
     ensures none { OnOk result
         (H.honest → checkpoint_in (reads_as (H.seen host.old).past) ≡ None) }
     ensures every_disk { OnOk result
         (H.honest → EveryDisk (λ disk. checkpoint_in disk ≡ None) (H.seen host.new).past) }
-    ensures exists { IsErrOf result FilesFault.Exists → H.honest
+    ensures exists { IsErrOf result CreateFault.Exists → H.honest
         → IsSome (checkpoint_in (reads_as (H.seen host.old).past)) }
     ensures same_bytes { H.honest → (file : File)
         → reads_as (H.seen host.new).past file ≡ reads_as (H.seen host.old).past file }
@@ -37,17 +37,17 @@ fn expect_none<H: Host>(alloc: Global, host: &mut H) -> Result<(), FilesFault>
         (H.seen host.old).past (H.seen host.new).past }
     ensures only_here { H.honest → OnlyOwn (H.seen host.old).past (H.seen host.new).past }
     ensures faults { IfErr result
-        (λ fault. (fault ≡ FilesFault.DiskFault) ⊎ (fault ≡ FilesFault.Exists)) }
+        (λ fault. (fault ≡ CreateFault.DiskFault) ⊎ (fault ≡ CreateFault.Exists)) }
     ensures cause { HasCause (H.seen host.old).disk_faults (H.seen host.new).disk_faults
-        (IsErrOf result FilesFault.DiskFault) }
+        (IsErrOf result CreateFault.DiskFault) }
     ensures output { (H.seen host.new).tell_faults ≡ (H.seen host.old).tell_faults }
 {
     match load(alloc, host) {
-        Ok(_found) => Err(FilesFault::Exists),
+        Ok(_found) => Err(CreateFault::Exists),
         Err(CheckFault::NoneOpen) => Ok(()),
-        Err(CheckFault::BadSlot(_place)) => Err(FilesFault::Exists),
-        Err(CheckFault::Memory) => Err(FilesFault::Exists),
-        Err(CheckFault::DiskFault) => Err(FilesFault::DiskFault),
+        Err(CheckFault::BadSlot(_place)) => Err(CreateFault::Exists),
+        Err(CheckFault::Memory) => Err(CreateFault::Exists),
+        Err(CheckFault::DiskFault) => Err(CreateFault::DiskFault),
     }
 }
 
@@ -56,7 +56,7 @@ fn expect_none<H: Host>(alloc: Global, host: &mut H) -> Result<(), FilesFault>
 /// `Exists` exactly where there is one, and `Memory` where there is none for the bytes of the body:
 /// each file then reads as before. At every moment a crash leaves what it might have left before
 /// the call, no database, or the new one.
-pub fn create<H: Host>(alloc: Global, host: &mut H, body: &Body) -> Result<Files, FilesFault>
+pub fn create<H: Host>(alloc: Global, host: &mut H, body: &Body) -> Result<Files, CreateFault>
     requires spelt { HasSpelling body.now }
     requires empty { NamesNone body.now }
     ensures created { IfOk result (λ files. H.honest
@@ -67,14 +67,14 @@ pub fn create<H: Host>(alloc: Global, host: &mut H, body: &Body) -> Result<Files
     ensures any_moment { H.honest → Throughout (EveryDisk
         (λ disk. IsDisk (H.seen host.old).past disk ⊎ HoldsIfMade body.now disk))
         (H.seen host.old).past (H.seen host.new).past }
-    ensures exists { IsErrOf result FilesFault.Exists → H.honest
+    ensures exists { IsErrOf result CreateFault.Exists → H.honest
         → IsSome (checkpoint_in (reads_as (H.seen host.old).past)) }
     ensures none { OnOk result
         (H.honest → checkpoint_in (reads_as (H.seen host.old).past) ≡ None) }
 
     // Where there is one, nothing is written.
     ensures made { H.honest → IsSome (checkpoint_in (reads_as (H.seen host.old).past))
-        → (IsErrOf result FilesFault.Exists ⊎ IsErrOf result FilesFault.DiskFault)
+        → (IsErrOf result CreateFault.Exists ⊎ IsErrOf result CreateFault.DiskFault)
         × ((file : File)
         → reads_as (H.seen host.new).past file ≡ reads_as (H.seen host.old).past file) }
     ensures made_moment { H.honest → IsSome (checkpoint_in (reads_as (H.seen host.old).past))
@@ -82,9 +82,9 @@ pub fn create<H: Host>(alloc: Global, host: &mut H, body: &Body) -> Result<Files
         (H.seen host.new).past }
 
     // Without memory nothing is written either.
-    ensures memory { IsErrOf result FilesFault.Memory → H.honest → (file : File)
+    ensures memory { IsErrOf result CreateFault.Memory → H.honest → (file : File)
         → reads_as (H.seen host.new).past file ≡ reads_as (H.seen host.old).past file }
-    ensures memory_moment { IsErrOf result FilesFault.Memory → H.honest
+    ensures memory_moment { IsErrOf result CreateFault.Memory → H.honest
         → Throughout (EveryDisk (IsDisk (H.seen host.old).past)) (H.seen host.old).past
         (H.seen host.new).past }
 
@@ -95,10 +95,8 @@ pub fn create<H: Host>(alloc: Global, host: &mut H, body: &Body) -> Result<Files
 
     // Nothing happens to a file that is not the database's own, and nothing is told.
     ensures only_here { H.honest → OnlyOwn (H.seen host.old).past (H.seen host.new).past }
-    ensures faults { IfErr result (λ fault. (fault ≡ FilesFault.DiskFault)
-        ⊎ (fault ≡ FilesFault.Exists) ⊎ (fault ≡ FilesFault.Memory)) }
     ensures cause { HasCause (H.seen host.old).disk_faults (H.seen host.new).disk_faults
-        (IsErrOf result FilesFault.DiskFault) }
+        (IsErrOf result CreateFault.DiskFault) }
     ensures output { (H.seen host.new).tell_faults ≡ (H.seen host.old).tell_faults }
 {
     expect_none(alloc, host)?;

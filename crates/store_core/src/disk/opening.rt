@@ -14,12 +14,13 @@ ghost use Rattle.store_core.specs.disk.Files.{IsOpenOf, IsReady};
 ghost use Rattle.store_core.specs.disk.Holds.{journal_file, AreKept, HasCheckpoint, Holds, OnlyOwn};
 ghost use Rattle.store_core.specs.disk.Kept.{pages_of, HasPagesOfEach};
 ghost use Rattle.store_core.specs.disk.Opened.{contents_of};
-ghost use Rattle.store_core.specs.disk.Opening.{AreFixed, IsOpenFault, OnlySyncs, StaySynced};
+ghost use Rattle.store_core.specs.disk.Opening.{AreFixed, OnlySyncs, StaySynced};
+ghost use Rattle.store_core.specs.Faults.{IsOpenFault};
 
 use crate::disk::beginning::journal_file_of;
-use crate::disk::fault::FilesFault;
 use crate::disk::files::Files;
 use crate::disk::reading::{Kept, read_kept};
+use crate::fault::OpenFault;
 use checkpoint::load;
 use checkpoint_body::{Body, RecordPageList, SlotPageList, read_body};
 use fixed_num::ListOf;
@@ -52,24 +53,21 @@ pub(crate) struct Checkpoint {
 }
 
 /// Loads the checkpoint that counts.
-pub(crate) fn load_checkpoint<H: Host>(
-    alloc: Global,
-    host: &mut H,
-) -> Result<Checkpoint, FilesFault>
+pub(crate) fn load_checkpoint<H: Host>(alloc: Global, host: &mut H) -> Result<Checkpoint, OpenFault>
     ensures loaded { IfOk result (λ found. H.honest
         → HasCheckpoint found.number found.body (reads_as (H.seen host.old).past)) }
     ensures spelt { IfOk result (λ found. HasSpelling found.body) }
     ensures synced { IfOk result (λ _. H.honest → IsSynced (of File.CheckA (H.seen host.new).past)
         × IsSynced (of File.CheckB (H.seen host.new).past)) }
-    ensures none { IsErrOf result FilesFault.NotADatabase → H.honest
+    ensures none { IsErrOf result OpenFault.NotADatabase → H.honest
         → checkpoint_in (reads_as (H.seen host.old).past) ≡ None }
-    ensures damaged { (part : ℕ) → IsErrOf result (FilesFault.Damaged part) → H.honest
+    ensures damaged { (part : ℕ) → IsErrOf result (OpenFault.Damaged part) → H.honest
         → IsDamagedAt part (reads_as (H.seen host.old).past) }
-    ensures early { (part : ℕ) → IsErrOf result (FilesFault.Damaged part) → part ≤ 2 }
+    ensures early { (part : ℕ) → IsErrOf result (OpenFault.Damaged part) → part ≤ 2 }
     ensures faults { IfErr result IsOpenFault }
     ensures syncs { H.honest → OnlySyncs (H.seen host.old).past (H.seen host.new).past }
     ensures cause { HasCause (H.seen host.old).disk_faults (H.seen host.new).disk_faults
-        (IsErrOf result FilesFault.DiskFault) }
+        (IsErrOf result OpenFault.DiskFault) }
     ensures output { (H.seen host.new).tell_faults ≡ (H.seen host.old).tell_faults }
 {
     let (number, bytes) = load(alloc, host)?;
@@ -78,15 +76,15 @@ pub(crate) fn load_checkpoint<H: Host>(
 }
 
 /// Makes a file of the database hold what it reads as.
-fn settle<H: Host>(host: &mut H, file: File) -> Result<(), FilesFault>
+fn settle<H: Host>(host: &mut H, file: File) -> Result<(), OpenFault>
     requires { file_number file < 7 }
     ensures synced { OnOk result (H.honest → IsSynced (of file (H.seen host.new).past)) }
     ensures stays { OnOk result (H.honest
         → StaySynced (H.seen host.old).past (H.seen host.new).past) }
     ensures syncs { H.honest → OnlySyncs (H.seen host.old).past (H.seen host.new).past }
-    ensures faults { IfErr result (λ fault. fault ≡ FilesFault.DiskFault) }
+    ensures faults { IfErr result (λ fault. fault ≡ OpenFault.DiskFault) }
     ensures cause { HasCause (H.seen host.old).disk_faults (H.seen host.new).disk_faults
-        (IsErrOf result FilesFault.DiskFault) }
+        (IsErrOf result OpenFault.DiskFault) }
     ensures output { (H.seen host.new).tell_faults ≡ (H.seen host.old).tell_faults }
 {
     host.sync(file)?;
@@ -94,16 +92,16 @@ fn settle<H: Host>(host: &mut H, file: File) -> Result<(), FilesFault>
 }
 
 /// Makes the files of the tiers hold what they read as.
-pub(crate) fn settle_tiers<H: Host>(host: &mut H) -> Result<(), FilesFault>
+pub(crate) fn settle_tiers<H: Host>(host: &mut H) -> Result<(), OpenFault>
     ensures synced { OnOk result (H.honest → IsSynced (of File.Tier0 (H.seen host.new).past)
         × IsSynced (of File.Tier1 (H.seen host.new).past)
         × IsSynced (of File.Tier2 (H.seen host.new).past)) }
     ensures stays { OnOk result (H.honest
         → StaySynced (H.seen host.old).past (H.seen host.new).past) }
     ensures syncs { H.honest → OnlySyncs (H.seen host.old).past (H.seen host.new).past }
-    ensures faults { IfErr result (λ fault. fault ≡ FilesFault.DiskFault) }
+    ensures faults { IfErr result (λ fault. fault ≡ OpenFault.DiskFault) }
     ensures cause { HasCause (H.seen host.old).disk_faults (H.seen host.new).disk_faults
-        (IsErrOf result FilesFault.DiskFault) }
+        (IsErrOf result OpenFault.DiskFault) }
     ensures output { (H.seen host.new).tell_faults ≡ (H.seen host.old).tell_faults }
 {
     settle(host, File::Tier0)?;
@@ -124,21 +122,21 @@ pub(crate) fn open_journal<H: Host>(
     alloc: Global,
     host: &mut H,
     number: u64,
-) -> Result<OpenJournal, FilesFault>
+) -> Result<OpenJournal, OpenFault>
     ensures opened { IfOk result (λ found. H.honest
         → IsOpen (of (journal_file number) (H.seen host.new).past) found.journal found.records) }
     ensures place { IfOk result (λ found. (found.journal.file ≡ journal_file number)
         × (found.journal.generation ≡ number)) }
-    ensures damaged { (part : ℕ) → IsErrOf result (FilesFault.Damaged part) → part ≡ 4 }
-    ensures broken { IsErrOf result (FilesFault.Damaged 4) → H.honest → (records : List (List ℕ))
+    ensures damaged { (part : ℕ) → IsErrOf result (OpenFault.Damaged part) → part ≡ 4 }
+    ensures broken { IsErrOf result (OpenFault.Damaged 4) → H.honest → (records : List (List ℕ))
         → ¬ StandsFor number (reads_as (H.seen host.old).past (journal_file number)) records }
     ensures faults { IfErr result IsOpenFault }
-    ensures not_none { IsErrOf result FilesFault.NotADatabase → ⊥ }
+    ensures not_none { IsErrOf result OpenFault.NotADatabase → ⊥ }
     ensures stays { OnOk result (H.honest
         → StaySynced (H.seen host.old).past (H.seen host.new).past) }
     ensures syncs { H.honest → OnlySyncs (H.seen host.old).past (H.seen host.new).past }
     ensures cause { HasCause (H.seen host.old).disk_faults (H.seen host.new).disk_faults
-        (IsErrOf result FilesFault.DiskFault) }
+        (IsErrOf result OpenFault.DiskFault) }
     ensures output { (H.seen host.new).tell_faults ≡ (H.seen host.old).tell_faults }
 {
     let file = journal_file_of(number);
@@ -155,7 +153,7 @@ pub(crate) struct Loaded {
 }
 
 /// Loads the checkpoint that counts, and reads the extents that it names.
-fn load_kept<H: Host>(alloc: Global, host: &mut H) -> Result<Loaded, FilesFault>
+fn load_kept<H: Host>(alloc: Global, host: &mut H) -> Result<Loaded, OpenFault>
     ensures loaded { IfOk result (λ found. H.honest
         → HasCheckpoint found.checkpoint.number found.checkpoint.body
         (reads_as (H.seen host.old).past)) }
@@ -165,14 +163,14 @@ fn load_kept<H: Host>(alloc: Global, host: &mut H) -> Result<Loaded, FilesFault>
     ensures kept { IfOk result (λ found. H.honest
         → AreKept found.checkpoint.body (pages_of found.kept) (reads_as (H.seen host.old).past)) }
     ensures synced { IfOk result (λ _. H.honest → AreFixed (H.seen host.new).past) }
-    ensures none { IsErrOf result FilesFault.NotADatabase → H.honest
+    ensures none { IsErrOf result OpenFault.NotADatabase → H.honest
         → checkpoint_in (reads_as (H.seen host.old).past) ≡ None }
-    ensures damaged { (part : ℕ) → IsErrOf result (FilesFault.Damaged part) → H.honest
+    ensures damaged { (part : ℕ) → IsErrOf result (OpenFault.Damaged part) → H.honest
         → IsDamagedAt part (reads_as (H.seen host.old).past) }
     ensures faults { IfErr result IsOpenFault }
     ensures syncs { H.honest → OnlySyncs (H.seen host.old).past (H.seen host.new).past }
     ensures cause { HasCause (H.seen host.old).disk_faults (H.seen host.new).disk_faults
-        (IsErrOf result FilesFault.DiskFault) }
+        (IsErrOf result OpenFault.DiskFault) }
     ensures output { (H.seen host.new).tell_faults ≡ (H.seen host.old).tell_faults }
 {
     let checkpoint = load_checkpoint(alloc, host)?;
@@ -185,7 +183,7 @@ fn load_kept<H: Host>(alloc: Global, host: &mut H) -> Result<Loaded, FilesFault>
 /// since. It syncs these files, and else only reads. `NotADatabase` where there is no checkpoint,
 /// `Damaged` where a part is damaged, the first in their order, `Memory` where memory ran out, and
 /// `DiskFault` where a call on the disk failed. It can be called again after each.
-pub fn open<H: Host>(alloc: Global, host: &mut H) -> Result<Opened, FilesFault>
+pub fn open<H: Host>(alloc: Global, host: &mut H) -> Result<Opened, OpenFault>
     ensures holds { IfOk result (λ opened. H.honest
         → Holds (contents_of opened) (reads_as (H.seen host.old).past)) }
     ensures opened { IfOk result (λ opened. H.honest
@@ -194,17 +192,17 @@ pub fn open<H: Host>(alloc: Global, host: &mut H) -> Result<Opened, FilesFault>
     ensures counted { IfOk result
         (λ opened. HasPagesOfEach opened.body (contents_of opened).kept) }
     ensures ready { IfOk result (λ opened. IsReady H.honest (H.seen host.new).past opened.files) }
-    ensures none { IsErrOf result FilesFault.NotADatabase → H.honest
+    ensures none { IsErrOf result OpenFault.NotADatabase → H.honest
         → checkpoint_in (reads_as (H.seen host.old).past) ≡ None }
     ensures some { IfOk result (λ _. H.honest
         → IsSome (checkpoint_in (reads_as (H.seen host.old).past))) }
-    ensures damaged { (part : ℕ) → IsErrOf result (FilesFault.Damaged part) → H.honest
+    ensures damaged { (part : ℕ) → IsErrOf result (OpenFault.Damaged part) → H.honest
         → IsDamagedAt part (reads_as (H.seen host.old).past) }
 
     // A database that is whole is opened, but for the disk and memory.
     ensures complete { H.honest → (contents : Contents)
         → Holds contents (reads_as (H.seen host.old).past)
-        → IfErr result (λ fault. (fault ≡ FilesFault.DiskFault) ⊎ (fault ≡ FilesFault.Memory)) }
+        → IfErr result (λ fault. (fault ≡ OpenFault.DiskFault) ⊎ (fault ≡ OpenFault.Memory)) }
     ensures faults { IfErr result IsOpenFault }
 
     // Each file reads as it did, and at every moment a crash leaves what it might have left before.
@@ -215,7 +213,7 @@ pub fn open<H: Host>(alloc: Global, host: &mut H) -> Result<Opened, FilesFault>
         (H.seen host.new).past }
     ensures only_here { H.honest → OnlyOwn (H.seen host.old).past (H.seen host.new).past }
     ensures cause { HasCause (H.seen host.old).disk_faults (H.seen host.new).disk_faults
-        (IsErrOf result FilesFault.DiskFault) }
+        (IsErrOf result OpenFault.DiskFault) }
     ensures output { (H.seen host.new).tell_faults ≡ (H.seen host.old).tell_faults }
 {
     let loaded = load_kept(alloc, host)?;

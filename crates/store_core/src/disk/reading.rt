@@ -18,16 +18,17 @@ ghost use Rattle.store_core.specs.disk.Kept.{pages_of, HasPagesOfEach};
 ghost use Rattle.store_core.specs.disk.Reading.{AreNamed, HasSlot, IsExtentFault, IsNamed};
 ghost use Rattle.store_core.specs.disk.Slots.{has_own_slots};
 
-use crate::disk::fault::{EXTENT_PART, FilesFault};
+use crate::disk::fault::EXTENT_PART;
 use crate::disk::items::{records_in, words_in};
 use crate::disk::slots::has_own_slots;
 use crate::disk::tier::items_of;
+use crate::fault::OpenFault;
 use checkpoint_body::{Body, Extent, RecordPage, RecordPageList, SlotPage, SlotPageList};
 use extent_file::Extent as OpenExtent;
 use fixed_num::ListOf;
 use host_model::{File, Host};
 use page_buffer::{RecordPage as PageOfRecords, SlotPage as PageOfSlots};
-use page_pool::{PagePool, RawPage};
+use page_pool::{PagePool, PoolFault, RawPage};
 use std::alloc::Global;
 
 /// Opens an extent that a checkpoint names, in the file of its tier.
@@ -37,7 +38,7 @@ pub(crate) fn open_extent<H: Host>(
     file: File,
     items: u32,
     extent: &Extent,
-) -> Result<OpenExtent, FilesFault>
+) -> Result<OpenExtent, OpenFault>
     requires tier { IsTierFile file }
     requires items { items ≤ MOST_ITEMS }
     requires slot { HasSlot extent.now }
@@ -47,7 +48,7 @@ pub(crate) fn open_extent<H: Host>(
         → Says (extent_form (tier_of file) (slot_size (tier_of file) items) extent.now.size)
         (drop (slot_start (tier_of file) items extent.now.slot)
         (contents (of file (H.seen host.old).past))) opened.entries) }
-    ensures damaged { IsErrOf result (FilesFault.Damaged 3) → H.honest
+    ensures damaged { IsErrOf result (OpenFault.Damaged 3) → H.honest
         → (entries : List AnEntry)
         → ¬ Says (extent_form (tier_of file) (slot_size (tier_of file) items) extent.now.size)
         (drop (slot_start (tier_of file) items extent.now.slot)
@@ -55,16 +56,14 @@ pub(crate) fn open_extent<H: Host>(
     ensures faults { IfErr result IsExtentFault }
     ensures past { H.honest → (H.seen host.new).past ≡ (H.seen host.old).past }
     ensures cause { HasCause (H.seen host.old).disk_faults (H.seen host.new).disk_faults
-        (IsErrOf result FilesFault.DiskFault) }
+        (IsErrOf result OpenFault.DiskFault) }
     ensures output { (H.seen host.new).tell_faults ≡ (H.seen host.old).tell_faults }
 {
     Ok(OpenExtent::open(alloc, host, file, items, extent.slot, extent.size)?)
 }
 
 /// A raw page of the pool, which takes memory where it has none.
-pub(crate) fn raw_page(pool: &mut PagePool) -> Result<RawPage, FilesFault>
-    ensures { IfErr result (λ fault. fault ≡ FilesFault.Memory) }
-{
+pub(crate) fn raw_page(pool: &mut PagePool) -> Result<RawPage, PoolFault> {
     pool.reserve(1)?;
     Ok(pool.take().unwrap())
 }
@@ -75,7 +74,7 @@ fn read_items<H: Host>(
     pool: &mut PagePool,
     extent: &OpenExtent,
     index: u32,
-) -> Result<RawPage, FilesFault>
+) -> Result<RawPage, OpenFault>
     requires { index < length extent.now.entries }
     ensures items { IfOk result (λ items. H.honest → (entry : AnEntry)
         → slice_get extent.now.entries index ≡ Some entry
@@ -88,14 +87,14 @@ fn read_items<H: Host>(
         ≤ length (contents (of extent.now.file (H.seen host.old).past))) }
 
     // The file ends before the items do.
-    ensures damaged { IsErrOf result (FilesFault.Damaged 3) → H.honest → (entry : AnEntry)
+    ensures damaged { IsErrOf result (OpenFault.Damaged 3) → H.honest → (entry : AnEntry)
         → slice_get extent.now.entries index ≡ Some entry
         → length (contents (of extent.now.file (H.seen host.old).past))
         < extent.now.start + entry.place + bytes_of (tier_of extent.now.file) entry }
     ensures faults { IfErr result IsExtentFault }
     ensures past { H.honest → (H.seen host.new).past ≡ (H.seen host.old).past }
     ensures cause { HasCause (H.seen host.old).disk_faults (H.seen host.new).disk_faults
-        (IsErrOf result FilesFault.DiskFault) }
+        (IsErrOf result OpenFault.DiskFault) }
     ensures output { (H.seen host.new).tell_faults ≡ (H.seen host.old).tell_faults }
 {
     let page = raw_page(pool)?;
@@ -109,28 +108,28 @@ pub(crate) fn read_slot_page<H: Host>(
     pool: &mut PagePool,
     extent: &OpenExtent,
     index: u32,
-) -> Result<SlotPage, FilesFault>
+) -> Result<SlotPage, OpenFault>
     requires tier { tier_of extent.now.file ≡ 0 }
     requires index { index < length extent.now.entries }
     ensures page { IfOk result (λ page. H.honest → (entry : AnEntry)
         → slice_get extent.now.entries index ≡ Some entry
         → IsNamed (tier_of extent.now.file) (drop extent.now.start
         (contents (of extent.now.file (H.seen host.old).past))) entry (page_of_slots page)) }
-    ensures damaged { IsErrOf result (FilesFault.Damaged 3) → H.honest → (entry : AnEntry)
+    ensures damaged { IsErrOf result (OpenFault.Damaged 3) → H.honest → (entry : AnEntry)
         → slice_get extent.now.entries index ≡ Some entry → (page : ASlotPage)
         → ¬ IsNamed (tier_of extent.now.file) (drop extent.now.start
         (contents (of extent.now.file (H.seen host.old).past))) entry (page_of_slots page) }
     ensures faults { IfErr result IsExtentFault }
     ensures past { H.honest → (H.seen host.new).past ≡ (H.seen host.old).past }
     ensures cause { HasCause (H.seen host.old).disk_faults (H.seen host.new).disk_faults
-        (IsErrOf result FilesFault.DiskFault) }
+        (IsErrOf result OpenFault.DiskFault) }
     ensures output { (H.seen host.new).tell_faults ≡ (H.seen host.old).tell_faults }
 {
     let (series, first, step, _) = extent.head(index);
     let bytes = read_items(host, pool, extent, index)?;
     let spare = raw_page(pool)?;
     let Ok(page) = PageOfSlots::decode(bytes.as_slice(), spare, series, first, step) else {
-        return Err(FilesFault::Damaged(EXTENT_PART));
+        return Err(OpenFault::Damaged(EXTENT_PART));
     };
     let words = words_in(alloc, &page)?;
     pool.give(bytes);
@@ -150,28 +149,28 @@ pub(crate) fn read_record_page<H: Host>(
     pool: &mut PagePool,
     extent: &OpenExtent,
     index: u32,
-) -> Result<RecordPage, FilesFault>
+) -> Result<RecordPage, OpenFault>
     requires tier { 0 < tier_of extent.now.file }
     requires index { index < length extent.now.entries }
     ensures page { IfOk result (λ page. H.honest → (entry : AnEntry)
         → slice_get extent.now.entries index ≡ Some entry
         → IsNamed (tier_of extent.now.file) (drop extent.now.start
         (contents (of extent.now.file (H.seen host.old).past))) entry (page_of_records page)) }
-    ensures damaged { IsErrOf result (FilesFault.Damaged 3) → H.honest → (entry : AnEntry)
+    ensures damaged { IsErrOf result (OpenFault.Damaged 3) → H.honest → (entry : AnEntry)
         → slice_get extent.now.entries index ≡ Some entry → (page : ARecordPage)
         → ¬ IsNamed (tier_of extent.now.file) (drop extent.now.start
         (contents (of extent.now.file (H.seen host.old).past))) entry (page_of_records page) }
     ensures faults { IfErr result IsExtentFault }
     ensures past { H.honest → (H.seen host.new).past ≡ (H.seen host.old).past }
     ensures cause { HasCause (H.seen host.old).disk_faults (H.seen host.new).disk_faults
-        (IsErrOf result FilesFault.DiskFault) }
+        (IsErrOf result OpenFault.DiskFault) }
     ensures output { (H.seen host.new).tell_faults ≡ (H.seen host.old).tell_faults }
 {
     let (series, first, step, _) = extent.head(index);
     let bytes = read_items(host, pool, extent, index)?;
     let spare = raw_page(pool)?;
     let Ok(page) = PageOfRecords::decode(bytes.as_slice(), spare, series, first, step) else {
-        return Err(FilesFault::Damaged(EXTENT_PART));
+        return Err(OpenFault::Damaged(EXTENT_PART));
     };
     let records = records_in(alloc, &page)?;
     pool.give(bytes);
@@ -190,13 +189,13 @@ fn read_slot_pages<H: Host>(
     host: &mut H,
     pool: &mut PagePool,
     extent: &OpenExtent,
-) -> Result<SlotPageList, FilesFault>
+) -> Result<SlotPageList, OpenFault>
     requires { tier_of extent.now.file ≡ 0 }
     ensures named { IfOk result (λ pages. H.honest
         → AreNamed (tier_of extent.now.file) (drop extent.now.start
         (contents (of extent.now.file (H.seen host.old).past)))
         extent.now.entries (map page_of_slots pages)) }
-    ensures damaged { IsErrOf result (FilesFault.Damaged 3) → H.honest
+    ensures damaged { IsErrOf result (OpenFault.Damaged 3) → H.honest
         → (pages : List ASlotPage)
         → ¬ AreNamed (tier_of extent.now.file) (drop extent.now.start
         (contents (of extent.now.file (H.seen host.old).past)))
@@ -204,7 +203,7 @@ fn read_slot_pages<H: Host>(
     ensures faults { IfErr result IsExtentFault }
     ensures past { H.honest → (H.seen host.new).past ≡ (H.seen host.old).past }
     ensures cause { HasCause (H.seen host.old).disk_faults (H.seen host.new).disk_faults
-        (IsErrOf result FilesFault.DiskFault) }
+        (IsErrOf result OpenFault.DiskFault) }
     ensures output { (H.seen host.new).tell_faults ≡ (H.seen host.old).tell_faults }
 {
     let mut pages = SlotPageList::new(alloc);
@@ -222,20 +221,20 @@ fn read_slots<H: Host>(
     pool: &mut PagePool,
     items: u32,
     extent: &Extent,
-) -> Result<SlotPageList, FilesFault>
+) -> Result<SlotPageList, OpenFault>
     requires items { items ≤ MOST_ITEMS }
     requires slot { HasSlot extent.now }
     ensures lies { IfOk result (λ pages. H.honest
         → LiesAs 0 items (contents (of File.Tier0 (H.seen host.old).past)) extent.now
         (map page_of_slots pages)) }
-    ensures damaged { IsErrOf result (FilesFault.Damaged 3) → H.honest
+    ensures damaged { IsErrOf result (OpenFault.Damaged 3) → H.honest
         → (pages : List ASlotPage)
         → ¬ LiesAs 0 items (contents (of File.Tier0 (H.seen host.old).past)) extent.now
         (map page_of_slots pages) }
     ensures faults { IfErr result IsExtentFault }
     ensures past { H.honest → (H.seen host.new).past ≡ (H.seen host.old).past }
     ensures cause { HasCause (H.seen host.old).disk_faults (H.seen host.new).disk_faults
-        (IsErrOf result FilesFault.DiskFault) }
+        (IsErrOf result OpenFault.DiskFault) }
     ensures output { (H.seen host.new).tell_faults ≡ (H.seen host.old).tell_faults }
 {
     let opened = open_extent(alloc, host, File::Tier0, items, extent)?;
@@ -248,13 +247,13 @@ fn read_record_pages<H: Host>(
     host: &mut H,
     pool: &mut PagePool,
     extent: &OpenExtent,
-) -> Result<RecordPageList, FilesFault>
+) -> Result<RecordPageList, OpenFault>
     requires { 0 < tier_of extent.now.file }
     ensures named { IfOk result (λ pages. H.honest
         → AreNamed (tier_of extent.now.file) (drop extent.now.start
         (contents (of extent.now.file (H.seen host.old).past)))
         extent.now.entries (map page_of_records pages)) }
-    ensures damaged { IsErrOf result (FilesFault.Damaged 3) → H.honest
+    ensures damaged { IsErrOf result (OpenFault.Damaged 3) → H.honest
         → (pages : List ARecordPage)
         → ¬ AreNamed (tier_of extent.now.file) (drop extent.now.start
         (contents (of extent.now.file (H.seen host.old).past)))
@@ -262,7 +261,7 @@ fn read_record_pages<H: Host>(
     ensures faults { IfErr result IsExtentFault }
     ensures past { H.honest → (H.seen host.new).past ≡ (H.seen host.old).past }
     ensures cause { HasCause (H.seen host.old).disk_faults (H.seen host.new).disk_faults
-        (IsErrOf result FilesFault.DiskFault) }
+        (IsErrOf result OpenFault.DiskFault) }
     ensures output { (H.seen host.new).tell_faults ≡ (H.seen host.old).tell_faults }
 {
     let mut pages = RecordPageList::new(alloc);
@@ -281,21 +280,21 @@ fn read_records<H: Host>(
     file: File,
     items: u32,
     extent: &Extent,
-) -> Result<RecordPageList, FilesFault>
+) -> Result<RecordPageList, OpenFault>
     requires tier { 4 < file_number file }
     requires items { items ≤ MOST_ITEMS }
     requires slot { HasSlot extent.now }
     ensures lies { IfOk result (λ pages. H.honest
         → LiesAs (tier_of file) items (contents (of file (H.seen host.old).past)) extent.now
         (map page_of_records pages)) }
-    ensures damaged { IsErrOf result (FilesFault.Damaged 3) → H.honest
+    ensures damaged { IsErrOf result (OpenFault.Damaged 3) → H.honest
         → (pages : List ARecordPage)
         → ¬ LiesAs (tier_of file) items (contents (of file (H.seen host.old).past)) extent.now
         (map page_of_records pages) }
     ensures faults { IfErr result IsExtentFault }
     ensures past { H.honest → (H.seen host.new).past ≡ (H.seen host.old).past }
     ensures cause { HasCause (H.seen host.old).disk_faults (H.seen host.new).disk_faults
-        (IsErrOf result FilesFault.DiskFault) }
+        (IsErrOf result OpenFault.DiskFault) }
     ensures output { (H.seen host.new).tell_faults ≡ (H.seen host.old).tell_faults }
 {
     let opened = open_extent(alloc, host, file, items, extent)?;
@@ -309,13 +308,13 @@ fn read_points<H: Host>(
     pool: &mut PagePool,
     items: u32,
     extents: &[Extent],
-) -> Result<ListOf<SlotPageList>, FilesFault>
+) -> Result<ListOf<SlotPageList>, OpenFault>
     requires items { items ≤ MOST_ITEMS }
     requires slots { AllByRecursion HasSlot extents.now }
     ensures lie { IfOk result (λ kept. H.honest
         → Lie 0 items (contents (of File.Tier0 (H.seen host.old).past)) extents.now
         (map (map page_of_slots) kept)) }
-    ensures damaged { IsErrOf result (FilesFault.Damaged 3) → H.honest
+    ensures damaged { IsErrOf result (OpenFault.Damaged 3) → H.honest
         → (kept : List (List ASlotPage))
         → ¬ Lie 0 items (contents (of File.Tier0 (H.seen host.old).past)) extents.now
         (map (map page_of_slots) kept) }
@@ -323,7 +322,7 @@ fn read_points<H: Host>(
     ensures faults { IfErr result IsExtentFault }
     ensures past { H.honest → (H.seen host.new).past ≡ (H.seen host.old).past }
     ensures cause { HasCause (H.seen host.old).disk_faults (H.seen host.new).disk_faults
-        (IsErrOf result FilesFault.DiskFault) }
+        (IsErrOf result OpenFault.DiskFault) }
     ensures output { (H.seen host.new).tell_faults ≡ (H.seen host.old).tell_faults }
 {
     let mut kept = ListOf::new(alloc);
@@ -342,14 +341,14 @@ fn read_tier<H: Host>(
     file: File,
     items: u32,
     extents: &[Extent],
-) -> Result<ListOf<RecordPageList>, FilesFault>
+) -> Result<ListOf<RecordPageList>, OpenFault>
     requires tier { 4 < file_number file }
     requires items { items ≤ MOST_ITEMS }
     requires slots { AllByRecursion HasSlot extents.now }
     ensures lie { IfOk result (λ kept. H.honest
         → Lie (tier_of file) items (contents (of file (H.seen host.old).past)) extents.now
         (map (map page_of_records) kept)) }
-    ensures damaged { IsErrOf result (FilesFault.Damaged 3) → H.honest
+    ensures damaged { IsErrOf result (OpenFault.Damaged 3) → H.honest
         → (kept : List (List ARecordPage))
         → ¬ Lie (tier_of file) items (contents (of file (H.seen host.old).past)) extents.now
         (map (map page_of_records) kept) }
@@ -357,7 +356,7 @@ fn read_tier<H: Host>(
     ensures faults { IfErr result IsExtentFault }
     ensures past { H.honest → (H.seen host.new).past ≡ (H.seen host.old).past }
     ensures cause { HasCause (H.seen host.old).disk_faults (H.seen host.new).disk_faults
-        (IsErrOf result FilesFault.DiskFault) }
+        (IsErrOf result OpenFault.DiskFault) }
     ensures output { (H.seen host.new).tell_faults ≡ (H.seen host.old).tell_faults }
 {
     let mut kept = ListOf::new(alloc);
@@ -381,21 +380,21 @@ pub(crate) fn read_kept<H: Host>(
     alloc: Global,
     host: &mut H,
     body: &Body,
-) -> Result<Kept, FilesFault>
+) -> Result<Kept, OpenFault>
     requires { HasSpelling body.now }
     ensures kept { IfOk result (λ kept. H.honest
         → AreKept body.now (pages_of kept) (reads_as (H.seen host.old).past)) }
-    ensures damaged { IsErrOf result (FilesFault.Damaged 3) → H.honest → (kept : KeptPages)
+    ensures damaged { IsErrOf result (OpenFault.Damaged 3) → H.honest → (kept : KeptPages)
         → ¬ AreKept body.now kept (reads_as (H.seen host.old).past) }
     ensures counted { IfOk result (λ kept. HasPagesOfEach body.now (pages_of kept)) }
     ensures faults { IfErr result IsExtentFault }
     ensures past { H.honest → (H.seen host.new).past ≡ (H.seen host.old).past }
     ensures cause { HasCause (H.seen host.old).disk_faults (H.seen host.new).disk_faults
-        (IsErrOf result FilesFault.DiskFault) }
+        (IsErrOf result OpenFault.DiskFault) }
     ensures output { (H.seen host.new).tell_faults ≡ (H.seen host.old).tell_faults }
 {
     if !has_own_slots(body) {
-        return Err(FilesFault::Damaged(EXTENT_PART));
+        return Err(OpenFault::Damaged(EXTENT_PART));
     }
     let mut pool = PagePool::new(alloc);
     let points = read_points(

@@ -43,8 +43,6 @@ fn write_segment<H: Host, S: Segment>(
         → Throughout (λ past. greatest (of file past) ≤ size) (H.seen host.old).past
         (H.seen host.new).past }
     ensures only_here { H.honest → OnlyOn file (H.seen host.old).past (H.seen host.new).past }
-    ensures faults { IfErr result
-        (λ fault. (fault ≡ FilesFault.DiskFault) ⊎ (fault ≡ FilesFault.Memory)) }
     ensures cause { HasCause (H.seen host.old).disk_faults (H.seen host.new).disk_faults
         (IsErrOf result FilesFault.DiskFault) }
     ensures output { (H.seen host.new).tell_faults ≡ (H.seen host.old).tell_faults }
@@ -80,8 +78,6 @@ pub(crate) fn write_segments<H: Host, S: Segment>(
         → Throughout (λ past. greatest (of file past) ≤ size) (H.seen host.old).past
         (H.seen host.new).past }
     ensures only_here { H.honest → OnlyOn file (H.seen host.old).past (H.seen host.new).past }
-    ensures faults { IfErr result
-        (λ fault. (fault ≡ FilesFault.DiskFault) ⊎ (fault ≡ FilesFault.Memory)) }
     ensures cause { HasCause (H.seen host.old).disk_faults (H.seen host.new).disk_faults
         (IsErrOf result FilesFault.DiskFault) }
     ensures output { (H.seen host.new).tell_faults ≡ (H.seen host.old).tell_faults }

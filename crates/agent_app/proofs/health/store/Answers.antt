@@ -3,8 +3,7 @@ use Rattle.host_model.specs.declared.status.Status.{Status}
 use Rattle.host_model.specs.Seen.{Seen}
 use Rattle.agent_core.specs.declared.fault.AgentFault.{AgentFault}
 use Rattle.agent_app.specs.Health.{StoresHealth}
-use Rattle.agent_app.specs.Running.{opening_status}
-use Rattle.agent_app.proofs.HealthLemmas.{cut-cause, cut-storing, disk-failed-storing, done-cause, memory-storing, refused-storing, told-storing, want-storing}
+use Rattle.agent_app.proofs.HealthLemmas.{cut-cause, cut-storing, done-cause, failed-storing, refused-storing, told-storing}
 use Rattle.agent_app.proofs.health.store.Goals as goal
 
 pub returns-in-Ok-tell_stored : goal.returns-in-Ok-tell_stored
@@ -31,16 +30,10 @@ returns-in-Err-Health g c =
     refused-storing g.H.Host.honest c.args.agent.now c.args.text.now host c.set_health.result middle c.set_health.new.self c.set_health.ensures c.requires.going
     c.in-Err-Health.fault (c.in-Err-Health.is ∙ ap (λ (f : AgentFault). Err f) c.in-Err-Health.field-0-is) c.tell_fault.result (g.H.Host.seen c.tell_fault.new.host) c.tell_fault.ensures.tells c.tell_fault.ensures.cause c.tell_fault.ensures.disk c.tell_fault.ensures.told_for
 
-pub returns-in-Err-DiskFault : goal.returns-in-Err-DiskFault
-returns-in-Err-DiskFault g c =
-    disk-failed-storing g.H.Host.honest c.args.agent.now c.args.text.now (g.H.Host.seen c.args.host.now) c.set_health.result (g.H.Host.seen c.set_health.new.host) c.set_health.new.self c.set_health.ensures c.requires.going
-    (c.in-Err-DiskFault.is ∙ ap (λ (f : AgentFault). Err f) c.in-Err-DiskFault.field-0-is)
-
 pub returns : goal.returns
 returns g c =
     let host : Seen = g.H.Host.seen c.args.host.now in
     let middle : Seen = g.H.Host.seen c.set_health.new.host in
-    let memory = memory-storing g.H.Host.honest c.args.agent.now c.args.text.now host c.set_health.result middle c.set_health.new.self c.set_health.ensures c.requires.going
-    c.in-Err.fault c.in-Err.is (λ refused e. grind (arith, e)) (λ e. grind (arith, e)) in
-    subst (λ (s : Status). StoresHealth g.H.Host.honest c.args.agent.now c.args.text.now s host middle) (sym (c.opening_status.ensures ∙ ap opening_status memory))
-    (want-storing g.H.Host.honest c.args.agent.now c.args.text.now host c.set_health.result middle c.set_health.new.self c.set_health.ensures c.requires.going (c.in-Err.is ∙ ap (λ (f : AgentFault). Err f) memory))
+    subst (λ (s : Status). StoresHealth g.H.Host.honest c.args.agent.now c.args.text.now s host middle) (sym c.agent_status.ensures)
+    (failed-storing g.H.Host.honest c.args.agent.now c.args.text.now host c.set_health.result middle c.set_health.new.self c.set_health.ensures c.requires.going
+    c.in-Err.fault c.in-Err.is (λ refused e. grind (arith, e)))

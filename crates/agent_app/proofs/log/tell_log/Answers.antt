@@ -6,14 +6,14 @@ use Rattle.agent_core.specs.declared.fault.AgentFault.{AgentFault}
 use Rattle.agent_core.specs.Calls.{Logs}
 use Rattle.agent_app.specs.Log.{log_for}
 use Rattle.agent_app.specs.Query.{Answering}
-use Rattle.agent_app.specs.Running.{opening_status}
+use Rattle.agent_app.specs.Statuses.{agent_status}
 use Rattle.agent_app.proofs.AskLemmas.{log-by, memory-logging, unasked}
 use Rattle.agent_app.proofs.log.tell_log.Goals as goal
 
 pub returns-in-Err : goal.returns-in-Err
 returns-in-Err g c =
     let memory = memory-logging c.args.agent.now c.requires c.log.result c.log.ensures c.in-Err.fault c.in-Err.is in
-    subst (λ (s : Status). Answering g.H.Host.honest c.args.agent.now (log_for c.args.form) s (g.H.Host.seen c.args.host.now) (g.H.Host.seen c.args.host.now)) (sym (c.opening_status.ensures ∙ ap opening_status memory))
+    subst (λ (s : Status). Answering g.H.Host.honest c.args.agent.now (log_for c.args.form) s (g.H.Host.seen c.args.host.now) (g.H.Host.seen c.args.host.now)) (sym (c.agent_status.ensures ∙ ap agent_status memory))
     (unasked g.H.Host.honest c.args.agent.now (log_for c.args.form) (g.H.Host.seen c.args.host.now))
 
 pub returns-in-Ok-write_as : goal.returns-in-Ok-write_as

@@ -3,7 +3,7 @@ use Rattle.host_model.specs.declared.status.Status.{Status}
 use Rattle.host_model.specs.Seen.{Seen}
 use Rattle.agent_core.specs.declared.fault.AgentFault.{AgentFault}
 use Rattle.agent_app.specs.Query.{reply_for, Answering}
-use Rattle.agent_app.specs.Running.{opening_status}
+use Rattle.agent_app.specs.Statuses.{agent_status}
 use Rattle.agent_app.proofs.AskLemmas.{answer-by, memory-asking, want-asking}
 use Rattle.agent_app.proofs.query.answer.Goals as goal
 
@@ -19,5 +19,5 @@ returns-in-Err g c =
     let host : Seen = g.H.Host.seen c.args.host.now in
     let middle : Seen = g.H.Host.seen c.query.new.host in
     let memory = memory-asking g.H.Host.honest c.args.agent.now c.args.text.now host c.query.result middle c.query.new.self c.query.ensures c.requires.going c.in-Err.fault c.in-Err.is in
-    subst (λ (s : Status). Answering g.H.Host.honest c.args.agent.now (reply_for c.args.text.now) s host middle) (sym (c.opening_status.ensures ∙ ap opening_status memory))
+    subst (λ (s : Status). Answering g.H.Host.honest c.args.agent.now (reply_for c.args.text.now) s host middle) (sym (c.agent_status.ensures ∙ ap agent_status memory))
     (want-asking g.H.Host.honest c.args.agent.now c.args.text.now host c.query.result middle c.query.new.self c.query.ensures (c.in-Err.is ∙ ap (λ (f : AgentFault). Err f) memory))

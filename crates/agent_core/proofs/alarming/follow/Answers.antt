@@ -21,7 +21,7 @@ returns-in-Beat-clause-events g c =
 pub returns-in-Configuration-clause-left_by : goal.returns-in-Configuration-clause-left_by
 returns-in-Configuration-clause-left_by g c =
     on_ok _ _ c.configure.result c.configure.ensures.held (λ now set h beat has awaits does.
-    left-followed set h beat c.args.left.now awaits c.configure.new.alarms
+    left-followed set h beat c.args.left.now awaits c.configure.new.self
     (now ∙ ap (λ (o : Outcome). o.held) (config-outcome set h beat c.args.left.now awaits c.in-Configuration.config (subst (IsSteppingOf beat) c.in-Configuration.is does))))
 
 pub returns-in-Configuration-clause-events : goal.returns-in-Configuration-clause-events

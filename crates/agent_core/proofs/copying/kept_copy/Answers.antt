@@ -65,7 +65,7 @@ returns-clause-kept c =
     λ i. whole (record { moment = Some c.args.beat.now.moment; points = points-kept c i; note = note-is c i })
 
 pub returns-clause-spelt : goal.returns-clause-spelt
-returns-clause-spelt c = subst HasSpelling (entry-is c) c.in_ok-note.ensures.written
+returns-clause-spelt c = subst HasSpelling (entry-is c) c.in_ok-entry.ensures.spelt
 
 pub returns-clause-named : goal.returns-clause-named
 returns-clause-named c = ap (names_series c.args.registry.now) (points-are c) ∙ words-named c.args.registry.now (words c) (sent c).there

@@ -44,7 +44,7 @@ returns-clause-done g c true_host before moment beat set h taken holds was follo
     let points = subst (HasSeenBeat old.registry old.latest new.latest c.args.numbered.now) c.as_slice.ensures c.in_ok-see_beat.ensures.seen in (
       holds-beat past c.args.store.now set h holds (collected moment beat) kept of (g.H.Host.seen c.commit.new.host).past c.commit.new.store (c.in_ok-commit.ensures.stored true_host holds.stored holds.store_of),
       collected-awaits past c.args.store.now set h holds before old was moment beat follows c.args.numbered.now taken kept (λ g' next. c.in_ok-kept.ensures.kept g' beat next) c.take_rows.new.last_rows new c.see_beat.ensures.only
-          c.in_ok-take_rows.ensures.taken points (c.in_ok-see_beat.ensures.before ∙ c.last-before.ensures),
+          c.in_ok-take_rows.ensures points (c.in_ok-see_beat.ensures.before ∙ c.last-before.ensures),
     )
 
 pub returns-clause-last : goal.returns-clause-last

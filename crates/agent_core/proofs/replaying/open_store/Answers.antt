@@ -1,6 +1,6 @@
 use Rattle.std.proofs.Common.{Err, sym, ap, ◌∙◌}
 use Rattle.std.proofs.lemmas.Result.{err_from_is_err_and}
-use Rattle.agent_core.specs.declared.fault.AgentFault.TheVariants as fault
+use Rattle.agent_core.specs.declared.fault.OpenFault.TheVariants.{NotADatabase, Damaged}
 use Rattle.agent_core.proofs.OpenFaults.{disk-or-memory, opens-unopened, same-fault, told-by}
 use Rattle.agent_core.proofs.replaying.open_store.Goals as goal
 
@@ -12,14 +12,12 @@ returns-in_err-open-clause-stands g c =
 pub returns-in_err-open-clause-none : goal.returns-in_err-open-clause-none
 returns-in_err-open-clause-none g c is =
     let error = err_from_is_err_and c.from_residual.result c.from_residual.ensures.1 in
-    c.open.ensures.none
-    (c.in_err-open.was ∙ ap Err (told-by c.in_err-open.field-0.0 fault.NotADatabase (sym (same-fault error.0 fault.NotADatabase _ error.1 is) ∙ error.2) tt))
+    c.open.ensures.none (c.in_err-open.was ∙ ap Err (told-by c.in_err-open.field-0.0 NotADatabase (sym (same-fault error.0 NotADatabase _ error.1 is) ∙ error.2)))
 
 pub returns-in_err-open-clause-damaged : goal.returns-in_err-open-clause-damaged
 returns-in_err-open-clause-damaged g c part is =
     let error = err_from_is_err_and c.from_residual.result c.from_residual.ensures.1 in
-    c.open.ensures.damaged part
-    (c.in_err-open.was ∙ ap Err (told-by c.in_err-open.field-0.0 (fault.Damaged part) (sym (same-fault error.0 (fault.Damaged part) _ error.1 is) ∙ error.2) tt))
+    c.open.ensures.damaged part (c.in_err-open.was ∙ ap Err (told-by c.in_err-open.field-0.0 (Damaged part) (sym (same-fault error.0 (Damaged part) _ error.1 is) ∙ error.2)))
 
 pub returns-in_err-open-clause-faults : goal.returns-in_err-open-clause-faults
 returns-in_err-open-clause-faults g c =

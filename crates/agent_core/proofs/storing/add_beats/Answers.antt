@@ -8,6 +8,7 @@ use Rattle.history.specs.declared.numbered.NumberedDimension.{NumberedDimension}
 use Rattle.entry_codec.specs.Entries.{is_collected_canonical, IsWithinLimits}
 use Rattle.history.specs.History.{Beat, copied}
 use Rattle.history.specs.Registry.{Registry}
+use Rattle.agent_core.specs.declared.fault.AgentFault.TheVariants.{Memory}
 use Rattle.agent_core.specs.Stands.{StandsForPrefix}
 use Rattle.agent_core.specs.Storing.{defining, later_copies, named_series, AreSent, HasAdded, MayTakeAll}
 use Rattle.agent_core.proofs.PrefixLemmas.{added-behind, copies-are, first_copy, first-moments, rest-moments, rest-sent, sent-first}
@@ -124,7 +125,7 @@ returns-clause-done g c true_host before set h holds was is all some =
     let followed = subst (λ (more : List Beat). HasAdded new c.add_later.new.store c.add_later.new.left set (copied copy ∷ h) more c.in_ok-more.more) more_is
     (c.in_ok-more.ensures.done true_host set (copied copy ∷ h) stored.holds stored.left_by takes) in
     subst (λ (more : List Beat). HasAdded new c.add_later.new.store c.add_later.new.left set h more c.add_events.new.events) (sym same)
-    (added-behind new c.add_later.new.store c.add_later.new.left set h (copied copy ∷ []) later c.in_ok-events.events c.in_ok-more.more c.add_events.new.events stored.events_are followed c.in_ok-add_events.ensures.added)
+    (added-behind new c.add_later.new.store c.add_later.new.left set h (copied copy ∷ []) later c.in_ok-events.events c.in_ok-more.more c.add_events.new.events stored.events_are followed c.in_ok-add_events.ensures)
 
 pub add_later-requires-clause-sent : goal.add_later-requires-clause-sent
 add_later-requires-clause-sent g c =
@@ -141,8 +142,8 @@ returns-in_err-more-clause-keeps g c =
 pub returns-in_err-add_events-clause-keeps : goal.returns-in_err-add_events-clause-keeps
 returns-in_err-add_events-clause-keeps g c =
     let p = err_from_is_err_and c.from_residual-in_err-add_events.result c.from_residual-in_err-add_events.ensures.1 in
-    rw (p.1, p.2) (keeps-after g.H.Host.honest (g.H.Host.seen c.args.host.now) (g.H.Host.seen c.add_later.new.host) (g.H.Host.seen c.add_later.new.host) c.args.store.now c.add_later.new.store c.add_later.new.store c.in_ok-more.more (Err c.in_err-add_events.field-0.0)
-    (keeps-both g.H.Host.honest (g.H.Host.seen c.args.host.now) (g.H.Host.seen c.add_copy.new.host) (g.H.Host.seen c.add_later.new.host) c.args.store.now c.add_copy.new.store c.add_later.new.store c.in_ok-events.events (Ok c.in_ok-more.more) c.in_ok-events.ensures.keeps c.in_ok-more.ensures.keeps) refl refl c.in_err-add_events.ensures.memory)
+    rw (p.1, p.2) (keeps-after g.H.Host.honest (g.H.Host.seen c.args.host.now) (g.H.Host.seen c.add_later.new.host) (g.H.Host.seen c.add_later.new.host) c.args.store.now c.add_later.new.store c.add_later.new.store c.in_ok-more.more (Err Memory)
+    (keeps-both g.H.Host.honest (g.H.Host.seen c.args.host.now) (g.H.Host.seen c.add_copy.new.host) (g.H.Host.seen c.add_later.new.host) c.args.store.now c.add_copy.new.store c.add_later.new.store c.in_ok-events.events (Ok c.in_ok-more.more) c.in_ok-events.ensures.keeps c.in_ok-more.ensures.keeps) refl refl refl)
 
 pub returns-clause-keeps : goal.returns-clause-keeps
 returns-clause-keeps g c =

@@ -4,6 +4,7 @@ use Rattle.host_model.specs.Disks.{EveryDisk}
 use Rattle.host_model.specs.Moments.{begins, Throughout}
 use Rattle.host_model.proofs.MomentLemmas.{joined}
 use Rattle.history.specs.History.{Beat, missing, Gap}
+use Rattle.agent_core.specs.declared.fault.AgentFault.TheVariants.{Memory}
 use Rattle.agent_core.specs.declared.left.Role.TheVariants.{Copies}
 use Rattle.agent_core.specs.Kept.{onto}
 use Rattle.agent_core.specs.Stands.{HoldsHistory, StandsForPrefix}
@@ -69,7 +70,7 @@ pub returns-in_err-join_gap-clause-keeps : goal.returns-in_err-join_gap-clause-k
 returns-in_err-join_gap-clause-keeps g c =
     let p = err_from_is_err_and c.from_residual-in_err-join_gap.result c.from_residual-in_err-join_gap.ensures.1 in
     rw (p.1, p.2) (keeps-after g.H.Host.honest (g.H.Host.seen c.args.host.now) (g.H.Host.seen c.make_room.new.host) (g.H.Host.seen c.make_room.new.host) c.args.store.now c.make_room.new.store c.make_room.new.store
-    c.in_ok-make_room.field-0 (Err c.in_err-join_gap.field-0.0) c.in_ok-make_room.ensures.keeps refl refl c.in_err-join_gap.ensures.memory)
+    c.in_ok-make_room.field-0 (Err Memory) c.in_ok-make_room.ensures.keeps refl refl refl)
 
 pub returns-in_err-add_gap-clause-keeps : goal.returns-in_err-add_gap-clause-keeps
 returns-in_err-add_gap-clause-keeps g c =

@@ -7,6 +7,7 @@ use Rattle.beat_tiers.specs.State.{TiersState}
 use Rattle.replication.specs.Copies.{latest as latest_of}
 use Rattle.replication.specs.Names.{beat_moment}
 use Rattle.link_frames.specs.DataForm.{has_rising_places, has_storage_numbers}
+use Rattle.agent_core.specs.declared.fault.AgentFault.TheVariants.{Memory}
 use Rattle.agent_core.specs.Kept.{onto}
 use Rattle.agent_core.specs.Storing.{later_copies, named_series}
 use Rattle.agent_core.proofs.PrefixLemmas.{all-at, later-at, later_copy, latest-next, rises-at, room-moments, sent-later, stored-moments, stored-more, stored-none, stored-room, takes-next, HaveStored}
@@ -120,7 +121,7 @@ loop-beat-preserved g c =
           subst (λ (k : ℕ). HaveStored (g.H.Host.seen c.args.host.now).past (g.H.Host.seen c.add_copy.new.host).past set h more k c.add_copy.new.store c.add_copy.new.left c.add_events.new.events) next
           (stored-more past roomed (g.H.Host.seen c.add_copy.new.host).past set h more n c.make_room.new.store c.loop-beat.left
           c.loop-beat.events stored (copied (later_copy registry message beat)) here (c.add_copy.ensures.any_moment true_host set (onto h (take n more)) (later_copy registry message beat) stored.added.holds sent)
-          c.add_copy.new.store c.add_copy.new.left c.in_ok-more.more c.add_events.new.events did c.in_ok-add_events.ensures.added);
+          c.add_copy.new.store c.add_copy.new.left c.in_ok-more.more c.add_events.new.events did c.in_ok-add_events.ensures);
       registry = c.add_copy.ensures.registry ∙ c.loop-beat.invariant.registry;
       role = λ role. c.in_ok-more.ensures.role;
       ready = c.add_copy.ensures.keeps.ready;
@@ -187,8 +188,8 @@ returns-in_err-add_events-clause-keeps g c =
     let so_far = keeps-so-far g.H.Host.honest (g.H.Host.seen c.args.host.now) (g.H.Host.seen c.loop-beat.host) c.args.store.now c.loop-beat.store inv.ready inv.replayed inv.going inv.settings inv.only_here inv.faults inv.tells in
     let room = keeps-both g.H.Host.honest (g.H.Host.seen c.args.host.now) (g.H.Host.seen c.loop-beat.host) (g.H.Host.seen c.make_room.new.host) c.args.store.now c.loop-beat.store c.make_room.new.store tt (Ok c.in_ok-make_room.field-0) so_far c.in_ok-make_room.ensures.keeps in
     let p = err_from_is_err_and c.from_residual-in_err-add_events.result c.from_residual-in_err-add_events.ensures.1 in
-    rw (p.1, p.2) (keeps-after g.H.Host.honest (g.H.Host.seen c.args.host.now) (g.H.Host.seen c.add_copy.new.host) (g.H.Host.seen c.add_copy.new.host) c.args.store.now c.add_copy.new.store c.add_copy.new.store c.in_ok-more.more (Err c.in_err-add_events.field-0.0)
-    (keeps-both g.H.Host.honest (g.H.Host.seen c.args.host.now) (g.H.Host.seen c.make_room.new.host) (g.H.Host.seen c.add_copy.new.host) c.args.store.now c.make_room.new.store c.add_copy.new.store c.in_ok-make_room.field-0 (Ok c.in_ok-more.more) room c.in_ok-more.ensures.keeps) refl refl c.in_err-add_events.ensures.memory)
+    rw (p.1, p.2) (keeps-after g.H.Host.honest (g.H.Host.seen c.args.host.now) (g.H.Host.seen c.add_copy.new.host) (g.H.Host.seen c.add_copy.new.host) c.args.store.now c.add_copy.new.store c.add_copy.new.store c.in_ok-more.more (Err Memory)
+    (keeps-both g.H.Host.honest (g.H.Host.seen c.args.host.now) (g.H.Host.seen c.make_room.new.host) (g.H.Host.seen c.add_copy.new.host) c.args.store.now c.make_room.new.store c.add_copy.new.store c.in_ok-make_room.field-0 (Ok c.in_ok-more.more) room c.in_ok-more.ensures.keeps) refl refl refl)
 
 pub returns-in_err-make_room-clause-bound : goal.returns-in_err-make_room-clause-bound
 returns-in_err-make_room-clause-bound g c true_host set h holds by all limit fits =

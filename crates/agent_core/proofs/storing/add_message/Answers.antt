@@ -8,6 +8,7 @@ use Rattle.history.specs.History.{Beat}
 use Rattle.history.specs.Registry.{same_chart, same_dimension, Registry, with_definitions}
 use Rattle.history.specs.Regular.{AreApart}
 use Rattle.replication.specs.declared.beats.Beat.{Beat as SentBeat}
+use Rattle.agent_core.specs.declared.fault.AgentFault.TheVariants.{Memory}
 use Rattle.agent_core.specs.declared.left.Left.{Left}
 use Rattle.agent_core.specs.Copying.{definitions_in, names_refusal}
 use Rattle.agent_core.specs.Kept.{onto}
@@ -143,8 +144,8 @@ returns-in_err-make_room-clause-keeps g c =
 pub returns-in_err-numbers-clause-keeps : goal.returns-in_err-numbers-clause-keeps
 returns-in_err-numbers-clause-keeps g c =
     let p = err_from_is_err_and c.from_residual-in_err-numbers.result c.from_residual-in_err-numbers.ensures.1 in
-    rw (p.1, p.2) (keeps-after g.H.Host.honest (g.H.Host.seen c.args.host.now) (g.H.Host.seen c.make_room.new.host) (g.H.Host.seen c.make_room.new.host) c.args.store.now c.make_room.new.store c.make_room.new.store c.in_ok-make_room.field-0 (Err c.in_err-numbers.field-0.0)
-    (keeps-both g.H.Host.honest (g.H.Host.seen c.args.host.now) (g.H.Host.seen c.add_gap_before.new.host) (g.H.Host.seen c.make_room.new.host) c.args.store.now c.add_gap_before.new.store c.make_room.new.store c.in_ok-add_gap_before.field-0 (Ok c.in_ok-make_room.field-0) c.in_ok-add_gap_before.ensures.keeps c.in_ok-make_room.ensures.keeps) refl refl c.in_err-numbers.ensures.memory)
+    rw (p.1, p.2) (keeps-after g.H.Host.honest (g.H.Host.seen c.args.host.now) (g.H.Host.seen c.make_room.new.host) (g.H.Host.seen c.make_room.new.host) c.args.store.now c.make_room.new.store c.make_room.new.store c.in_ok-make_room.field-0 (Err Memory)
+    (keeps-both g.H.Host.honest (g.H.Host.seen c.args.host.now) (g.H.Host.seen c.add_gap_before.new.host) (g.H.Host.seen c.make_room.new.host) c.args.store.now c.add_gap_before.new.store c.make_room.new.store c.in_ok-add_gap_before.field-0 (Ok c.in_ok-make_room.field-0) c.in_ok-add_gap_before.ensures.keeps c.in_ok-make_room.ensures.keeps) refl refl refl)
 
 pub returns-clause-keeps : goal.returns-clause-keeps
 returns-clause-keeps g c =

@@ -1,4 +1,4 @@
-use Rattle.alarm_core.proofs.AgainLemmas.{kept_again, read_again, whole_nothing, whole_configured, whole_stepped}
+use Rattle.alarm_core.proofs.AgainLemmas.{kept_again, whole_nothing, whole_configured, whole_stepped}
 use Rattle.alarm_core.proofs.LogLemmas.{calls_shown, calls_numbered}
 use Rattle.alarm_core.proofs.SameLemmas.{alarms_alike}
 use Rattle.alarm_core.proofs.law.alarms_stay_whole.Goals as goal
@@ -20,9 +20,6 @@ returns-clause-whole_configured c = whole_configured
 
 pub returns-clause-whole_stepped : goal.returns-clause-whole_stepped
 returns-clause-whole_stepped c = whole_stepped
-
-pub returns-clause-again : goal.returns-clause-again
-returns-clause-again c = read_again
 
 pub returns-clause-kept_again : goal.returns-clause-kept_again
 returns-clause-kept_again c = kept_again

@@ -8,9 +8,3 @@ returns-clause-short g c h stable short =
     let file = c.args.file in
     let old = (g.H.Host.seen c.args.host.now).past in
     within_images 17 file old (g.H.Host.seen c.put_down.new.host).past (c.put_down.ensures.bound 17 (omega arith) h (within_when_synced 17 (of file old) stable short))
-
-pub returns-then-is_err-clause-short : goal.returns-then-is_err-clause-short
-returns-then-is_err-clause-short g c h stable short =
-    let file = c.args.file in
-    let old = (g.H.Host.seen c.args.host.now).past in
-    within_images 17 file old (g.H.Host.seen c.put_down.new.host).past (c.put_down.ensures.bound 17 (omega arith) h (within_when_synced 17 (of file old) stable short))

@@ -1,14 +1,23 @@
-use Rattle.std.proofs.Common.{◌≡◌, Err, refl, ap, rules}
+use Rattle.std.proofs.Common.{◌≡◌, Err, refl, sym, ap, ◌∙◌}
 use Rattle.std.proofs.lemmas.Result.{err_from_is_err_and}
 use Rattle.host_model.specs.Disks.{reads_as}
+use Rattle.store_core.specs.declared.fault.OpenFault.TheVariants.{NotADatabase}
 use Rattle.store_core.specs.disk.Contents.{Contents}
 use Rattle.store_core.specs.disk.Opened.{contents_of}
 use Rattle.store_core.proofs.DamageLemmas.{holds-files}
 use Rattle.store_core.proofs.DiskProofs.OneLemmas.{one_contents}
 use Rattle.store_core.proofs.FaultLemmas.{read-whole}
 use Rattle.store_core.proofs.OpenLemmas.{opened-ready, opens-at}
-use Rattle.store_core.proofs.StandLemmas.{has-stored}
+use Rattle.store_core.proofs.StandLemmas.{has-stored, none-made}
 use Rattle.store_core.proofs.opening.open_whole.Goals as goal
+
+-- ---- the files are not opened
+
+pub returns-in_err-opened-clause-none : goal.returns-in_err-opened-clause-none
+returns-in_err-opened-clause-none g c is h =
+    let p = err_from_is_err_and c.from_residual.result c.from_residual.ensures.1 in
+    let fault : p.0 ≡ NotADatabase = cc in
+    none-made (reads_as (g.H.Host.seen c.args.host.now).past) (c.in_err-opened.ensures.none (ap Err (sym p.2 ∙ fault)) h)
 
 -- ---- what the files hold is not read
 
@@ -25,13 +34,13 @@ returns-in_err-tiers-clause-complete g c h stored stands =
 
 pub returns-clause-opened : goal.returns-clause-opened
 returns-clause-opened g c h stored stands =
-    opens-at (contents_of c.in_ok-opened.opened) (reads_as (g.H.Host.seen c.args.host.now).past) (g.H.Host.seen c.open_files.new.host).past _
+    opens-at (contents_of c.in_ok-opened.opened) (reads_as (g.H.Host.seen c.args.host.now).past) (g.H.Host.seen c.open.new.host).past _
     (c.in_ok-opened.ensures.holds h) (c.in_ok-opened.ensures.opened h) c.in_ok-opened.ensures.spelt refl refl refl refl c.in_ok-tiers.ensures.tiers c.in_ok-tiers.ensures.beats stored stands
 
 pub returns-clause-ready : goal.returns-clause-ready
 returns-clause-ready g c =
-    opened-ready g.H.Host.honest (g.H.Host.seen c.open_files.new.host).past _ (contents_of c.in_ok-opened.opened) refl c.in_ok-opened.ensures.spelt c.in_ok-opened.ensures.paged
-    c.in_ok-tiers.ensures.tiers c.in_ok-tiers.ensures.counted c.in_ok-opened.ensures.place refl refl c.in_ok-tiers.ensures.beats c.in_ok-tiers.ensures.bytes
+    opened-ready g.H.Host.honest (g.H.Host.seen c.open.new.host).past _ (contents_of c.in_ok-opened.opened) refl c.in_ok-opened.ensures.spelt c.in_ok-opened.ensures.counted
+    c.in_ok-tiers.ensures.tiers c.in_ok-tiers.ensures.counted c.in_ok-opened.ensures.ready.place refl refl c.in_ok-tiers.ensures.beats c.in_ok-tiers.ensures.bytes
     (λ h. c.in_ok-opened.ensures.opened h)
 
 pub returns-clause-form : goal.returns-clause-form

@@ -1,5 +1,5 @@
 use Rattle.std.proofs.Common.{◌≡◌, Err, ap, sym, ◌∙◌, rules}
-use Rattle.store_core.specs.declared.fault.StoreFault.TheVariants.{Damaged}
+use Rattle.store_core.specs.declared.fault.OpenFault.TheVariants.{Damaged}
 use Rattle.store_core.specs.beats.Records.{beats_from}
 use Rattle.store_core.specs.disk.Opened.{contents_of}
 use Rattle.store_core.proofs.OpenLemmas.{unread}

@@ -1,14 +1,14 @@
-use Rattle.std.proofs.Common.{◌≡◌, ap, refl, subst, sym, Result, Ok, Err, IsErrOf, ◌∙◌, arith}
-use Rattle.std.proofs.lemmas.Result.{IfErr-at_err}
-use Rattle.host_model.specs.declared.status.Status.TheVariants.{DiskFault, Memory}
+use Rattle.std.proofs.Common.{◌≡◌, ap, subst, sym, Result, Ok, Err, ◌∙◌, arith}
+use Rattle.host_model.specs.declared.status.Status.{Status}
 use Rattle.agent_core.specs.declared.fault.AgentFault.{AgentFault}
-use Rattle.agent_core.specs.declared.fault.AgentFault.TheVariants as agent_fault
 use Rattle.agent_core.specs.declared.reply.Said.{Said}
-use Rattle.agent_core.specs.declared.reply.Said.TheVariants.{Disabled, Nothing}
+use Rattle.agent_core.specs.declared.reply.Said.TheVariants.{Disabled, Nothing, Stored, Table}
+use Rattle.agent_core.specs.Calls.{Lines}
 use Rattle.agent_core.specs.Said.{IsSaid}
 use Rattle.host_model.specs.Seen.{Seen}
-use Rattle.agent_app.proofs.FitLemmas.{fit-told}
-use Rattle.agent_app.proofs.TakeLemmas.{answer-line, block-line, disabled-said, last-line, nothing-said, quiet-line, stored-line, stored-said, table-said, torn-line}
+use Rattle.agent_app.specs.Running.{TakesLine}
+use Rattle.agent_app.proofs.FitLemmas.{fit-taken, fit-told}
+use Rattle.agent_app.proofs.TakeLemmas.{answer-line, block-line, disabled-said, failed-line, last-line, nothing-said, quiet-line, stored-line, stored-said, table-said}
 use Rattle.agent_app.proofs.running.Running.take.Goals as goal
 
 abbrev answered : Said → Result Said AgentFault
@@ -57,31 +57,25 @@ returns-in-Err-Refused-clause-takes g c bytes is short =
     block-line g.H.Host.honest c.args.self.now host c.args.number bytes short c.args.said is c.take_line.result middle c.take_line.new.self c.take_line.new.feed c.take_line.ensures c.in-Err-Refused.fault (c.in-Err-Refused.is ∙ ap (λ (f : AgentFault). Err f) c.in-Err-Refused.field-0-is)
     c.tell_refusal.result host' c.tell_refusal.ensures.tells c.tell_refusal.ensures.cause c.tell_refusal.ensures.disk
 
-pub returns-in-Err-DiskFault-clause-takes : goal.returns-in-Err-DiskFault-clause-takes
-returns-in-Err-DiskFault-clause-takes g c bytes is short =
-    let host : Seen = g.H.Host.seen c.args.host.now in
-    let middle : Seen = g.H.Host.seen c.take_line.new.host in
-    let failed = c.in-Err-DiskFault.is ∙ ap (λ (f : AgentFault). Err f) c.in-Err-DiskFault.field-0-is in
-    torn-line g.H.Host.honest c.args.self.now host c.args.number bytes short c.args.said is c.take_line.result middle c.take_line.new.self c.take_line.new.feed c.take_line.ensures DiskFault refl tt (λ e. cc) (λ _. failed) (λ _. refl) (λ ended ending text. c.take_line.ensures.cause.failed failed)
-
 pub returns-in-Err : goal.returns-in-Err
 returns-in-Err g c = record {
   takes = λ bytes is short.
       let host : Seen = g.H.Host.seen c.args.host.now in
       let middle : Seen = g.H.Host.seen c.take_line.new.host in
-      let is_disk : IsErrOf c.take_line.result agent_fault.DiskFault → c.in-Err.field-0 ≡ agent_fault.DiskFault
-      = λ failed. IfErr-at_err (λ (f : AgentFault). f ≡ agent_fault.DiskFault) (sym failed ∙ c.in-Err.is) refl in
-      let other : IsErrOf c.take_line.result agent_fault.DiskFault → ⊥ = λ failed. let same = is_disk failed in grind (arith, same) in
-      torn-line g.H.Host.honest c.args.self.now host c.args.number bytes short c.args.said is c.take_line.result middle c.take_line.new.self c.take_line.new.feed c.take_line.ensures Memory refl tt (λ e. cc) (λ e. cc) (λ failed. absurd (other failed)) (λ ended ending text. tt);
+      subst (λ (s : Status). TakesLine g.H.Host.honest c.args.self.now host c.args.number bytes (Err s) (record c.args.self.now { agent = c.take_line.new.self; feed = c.take_line.new.feed }) middle) (sym c.agent_status.ensures)
+      (failed-line g.H.Host.honest c.args.self.now host c.args.number bytes short c.args.said is c.take_line.result middle c.take_line.new.self c.take_line.new.feed c.take_line.ensures c.requires.ready.going
+      c.in-Err.fault c.in-Err.is (λ fault e. grind (arith, e)));
   ready = tt;
 }
 
 pub returns-in-Ok-Stored-clause-ready : goal.returns-in-Ok-Stored-clause-ready
 returns-in-Ok-Stored-clause-ready g c =
-    fit-told g.H.Host.honest _ (g.H.Host.seen c.take_line.new.host) (g.H.Host.seen c.tell_stored.new.host) _ c.tell_stored.result
-    (record { agent = c.take_line.ensures.ready; feed = c.take_line.ensures.fed }) c.tell_stored.ensures.done
+    fit-told g.H.Host.honest _ (g.H.Host.seen c.take_line.new.host) (g.H.Host.seen c.tell_stored.new.host) _ c.tell_stored.result (fit-taken g.H.Host.honest c.args.self.now (g.H.Host.seen c.args.host.now) c.args.said (Stored c.in-Ok-Stored.reply) (g.H.Host.seen c.take_line.new.host) c.take_line.new.self c.take_line.new.feed
+    (subst (λ (r : Result Said AgentFault). Lines g.H.Host.honest (g.H.Host.seen c.args.host.now) c.args.self.now.agent c.args.self.now.feed c.args.said r (g.H.Host.seen c.take_line.new.host) c.take_line.new.self c.take_line.new.feed)
+    (c.in-Ok-Stored.is ∙ as_ok c.in-Ok-Stored.field-0-is) c.take_line.ensures) c.requires.ready) c.tell_stored.ensures.done
 
 pub returns-in-Ok-Table-clause-ready : goal.returns-in-Ok-Table-clause-ready
 returns-in-Ok-Table-clause-ready g c =
-    fit-told g.H.Host.honest _ (g.H.Host.seen c.take_line.new.host) (g.H.Host.seen c.tell_whole.new.host) _ c.tell_whole.result
-    (record { agent = c.take_line.ensures.ready; feed = c.take_line.ensures.fed }) c.tell_whole.ensures.done
+    fit-told g.H.Host.honest _ (g.H.Host.seen c.take_line.new.host) (g.H.Host.seen c.tell_whole.new.host) _ c.tell_whole.result (fit-taken g.H.Host.honest c.args.self.now (g.H.Host.seen c.args.host.now) c.args.said (Table c.in-Ok-Table.reply) (g.H.Host.seen c.take_line.new.host) c.take_line.new.self c.take_line.new.feed
+    (subst (λ (r : Result Said AgentFault). Lines g.H.Host.honest (g.H.Host.seen c.args.host.now) c.args.self.now.agent c.args.self.now.feed c.args.said r (g.H.Host.seen c.take_line.new.host) c.take_line.new.self c.take_line.new.feed)
+    (c.in-Ok-Table.is ∙ as_ok c.in-Ok-Table.field-0-is) c.take_line.ensures) c.requires.ready) c.tell_whole.ensures.done

@@ -1,6 +1,5 @@
 use Rattle.std.proofs.Common.{◌≡◌, Bool, None, Result, OnOk, sym, ap, subst, ◌∙◌}
 use Rattle.std.proofs.lemmas.Result.{IfOk-weaker}
-use Rattle.host_model.specs.Seen.{Seen}
 use Rattle.history.specs.declared.fault.BlockFault.{BlockFault}
 use Rattle.collect_block.specs.declared.step.Step.{Step}
 use Rattle.collect_block.specs.Feed.{CountsFor, CountsPast}

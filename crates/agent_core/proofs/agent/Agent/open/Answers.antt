@@ -6,7 +6,7 @@ use Rattle.tier_settings.specs.declared.settings.Settings.{Settings}
 use Rattle.history.specs.History.{Beat}
 use Rattle.store_core.proofs.DamageLemmas.{one-damaged}
 use Rattle.agent_core.specs.Calls.{Opens}
-use Rattle.agent_core.specs.declared.fault.AgentFault.TheVariants.{Damaged}
+use Rattle.agent_core.specs.declared.fault.OpenFault.TheVariants.{DiskFault, Damaged}
 use Rattle.agent_core.specs.Faults.{IsUnopened}
 use Rattle.agent_core.specs.Notes.{NotesGo}
 use Rattle.agent_core.specs.Stands.{StandsForHistory}
@@ -79,7 +79,7 @@ returns-in_err-store g c =
       notes = tt;
       damaged_notes = λ is true_host notes. no-notes (subst IsUnopened (one-told fault (Damaged 5) is) c.in_err-store.ensures.faults);
       faults = unopened-opening fault c.in_err-store.ensures.faults;
-      cause = told-cause host.disk_faults (g.H.Host.seen c.open_store.new.host).disk_faults c.open_store.result fault c.in_err-store.was asked.cause;
+      cause = told-cause host.disk_faults (g.H.Host.seen c.open_store.new.host).disk_faults DiskFault c.open_store.result fault c.in_err-store.was asked.cause;
       bound = asked.bound;
       only_here = asked.only_here;
       tells = asked.tells;

@@ -9,6 +9,7 @@ use Rattle.replication.specs.Verdict.{is_stored}
 use Rattle.store_core.specs.Counts.{counted}
 use Rattle.store_core.specs.declared.fault.Why.{Why}
 use Rattle.agent_core.specs.declared.fault.AgentFault.{AgentFault}
+use Rattle.agent_core.specs.declared.fault.AgentFault.TheVariants.{DiskFault}
 use Rattle.agent_core.specs.declared.left.Role.TheVariants.{Copies}
 use Rattle.agent_core.specs.declared.reply.Reply.{Reply}
 use Rattle.agent_core.specs.Agent.{AgentState, IsAgentOf}
@@ -130,7 +131,7 @@ returns-in_err-reply g c =
       stays = did.stays;
       id = did.id;
       ready = did.ready;
-      cause = told-cause host.disk_faults host'.disk_faults (unstored fault) fault refl did.cause;
+      cause = told-cause host.disk_faults host'.disk_faults DiskFault (unstored fault) fault refl did.cause;
       bound = did.bound;
       only_here = did.only_here;
       tells = did.tells;

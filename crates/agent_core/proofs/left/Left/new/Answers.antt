@@ -15,7 +15,7 @@ returns-clause-left c set = record {
   last_rows_are = c.new-last_rows.ensures.of_no_beats;
   latest_is = c.nothing_seen-latest.ensures.none;
   gaps_are = subst (AreGapsLeft set []) (sym c.new-gaps.ensures) (none-left set);
-  alarms_are = c.in_ok-alarms.ensures.held ∙ none-yet set;
+  alarms_are = c.in-Ok.ensures.held ∙ none-yet set;
 }
 
 pub returns-clause-fit : goal.returns-clause-fit
@@ -23,5 +23,5 @@ returns-clause-fit c = record {
   charts = subst (λ (r : Registry). AreApart same_chart r.charts) (sym c.new-registry.ensures) tt;
   dimensions = subst (λ (r : Registry). AreApart same_dimension r.dimensions) (sym c.new-registry.ensures) tt;
   limits = subst HasLimits (sym c.new-registry.ensures) none-limits;
-  up_to = c.in_ok-alarms.ensures.up_to c.new-registry.result;
+  up_to = c.in-Ok.ensures.up_to c.new-registry.result;
 }

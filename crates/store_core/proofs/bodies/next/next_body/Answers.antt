@@ -1,4 +1,4 @@
-use Rattle.std.proofs.Common.{◌≡◌, ℕ, ◌-◌, ◌^◌, ◌<◌, List, [], ◌∷◌, length, arith, ap, sym, refl, ◌∙◌, subst}
+use Rattle.std.proofs.Common.{◌≡◌, ℕ, ◌^◌, ◌<◌, List, [], ◌∷◌, length, arith, ap, sym, refl, ◌∙◌, subst}
 use Rattle.beat_tiers.specs.declared.item.Stepped.{Stepped}
 use Rattle.beat_tiers.specs.Room.{records_held, tiers_held, RecordTierHeld, SegmentsHeld}
 use Rattle.beat_tiers.specs.Sound.{IsPointItem}

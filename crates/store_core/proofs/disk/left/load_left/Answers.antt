@@ -2,7 +2,7 @@ use Rattle.std.proofs.Common.{◌≡◌, ℕ, List, Err, rules, sym, ap, ◌∙�
 use Rattle.std.proofs.lemmas.Result.{err_from_is_err_and}
 use Rattle.host_model.specs.declared.file.File.{File}
 use Rattle.host_model.specs.Disks.{reads_as}
-use Rattle.store_core.specs.declared.disk.fault.FilesFault.TheVariants.{Damaged}
+use Rattle.store_core.specs.declared.fault.OpenFault.TheVariants.{Damaged}
 use Rattle.store_core.specs.disk.Formed.{AreFormed}
 use Rattle.store_core.proofs.DiskProofs.LeftLemmas.{directory_part, early_part}
 use Rattle.store_core.proofs.DiskProofs.OpenedLemmas.{same_disk, extent_fault}

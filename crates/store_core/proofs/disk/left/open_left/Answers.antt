@@ -3,7 +3,7 @@ use Rattle.host_model.specs.Disks.{reads_as}
 use Rattle.host_model.specs.Past.{of}
 use Rattle.journal_core.specs.Form.{StandsFor}
 use Rattle.journal_core.specs.Journal.{IsOpen}
-use Rattle.store_core.specs.declared.disk.fault.FilesFault.TheVariants.{Damaged}
+use Rattle.store_core.specs.declared.fault.OpenFault.TheVariants.{Damaged}
 use Rattle.store_core.specs.disk.Files.{FilesState}
 use Rattle.store_core.specs.disk.Formed.{HasFiles}
 use Rattle.store_core.specs.disk.Holds.{journal_file}

@@ -3,7 +3,7 @@ use Rattle.std.proofs.lemmas.Result.{err_from_is_err_and}
 use Rattle.host_model.specs.Disks.{reads_as}
 use Rattle.checkpoint_body.specs.Body.{IsNoSpelling}
 use Rattle.store_core.specs.disk.Damaged.{IsDamagedAt}
-use Rattle.store_core.specs.declared.disk.fault.FilesFault.TheVariants.{Damaged, NotADatabase}
+use Rattle.store_core.specs.declared.fault.OpenFault.TheVariants.{Damaged, NotADatabase}
 use Rattle.store_core.proofs.DiskProofs.FaultLemmas.{check_cause, check_damaged, check_none, check_opens, body_cause, body_none, body_opens, body_unspelt}
 use Rattle.store_core.proofs.disk.opening.load_checkpoint.Goals as goal
 

@@ -5,7 +5,7 @@ use Rattle.host_model.specs.Past.{of}
 use Rattle.journal_core.specs.Form.{StandsFor}
 use Rattle.journal_core.specs.Journal.{IsOpen}
 use Rattle.store_core.specs.disk.Holds.{journal_file, Holds}
-use Rattle.store_core.specs.declared.disk.fault.FilesFault.TheVariants.{Damaged}
+use Rattle.store_core.specs.declared.fault.OpenFault.TheVariants.{Damaged}
 use Rattle.store_core.specs.disk.Contents.{Contents}
 use Rattle.store_core.specs.disk.Files.{FilesState, IsOpenOf}
 use Rattle.store_core.specs.disk.Kept.{pages_of}

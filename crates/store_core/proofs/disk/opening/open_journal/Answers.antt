@@ -7,7 +7,7 @@ use Rattle.host_model.specs.Disks.{reads_as}
 use Rattle.journal_core.specs.Form.{StandsFor}
 use Rattle.journal_core.specs.Journal.{IsOpen}
 use Rattle.store_core.specs.disk.Holds.{journal_file}
-use Rattle.store_core.specs.declared.disk.fault.FilesFault.TheVariants.{Damaged, NotADatabase}
+use Rattle.store_core.specs.declared.fault.OpenFault.TheVariants.{Damaged, NotADatabase}
 use Rattle.store_core.proofs.DiskProofs.FaultLemmas.{cause_after, journal_cause, journal_damaged, journal_none, journal_opens}
 use Rattle.store_core.proofs.DiskProofs.SyncLemmas.{journal_number, syncs_joined, syncs_opened, opened_stays}
 use Rattle.store_core.proofs.disk.opening.open_journal.Goals as goal

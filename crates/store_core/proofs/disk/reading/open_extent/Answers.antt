@@ -5,7 +5,7 @@ use Rattle.host_model.specs.Past.{of}
 use Rattle.extent_file.specs.Directory.{extent_form}
 use Rattle.extent_file.specs.Slot.{slot_size, slot_start, tier_of}
 use Rattle.extent_file.proofs.LawLemmas.{never_both}
-use Rattle.store_core.specs.declared.disk.fault.FilesFault.TheVariants.{Damaged}
+use Rattle.store_core.specs.declared.fault.OpenFault.TheVariants.{Damaged}
 use Rattle.store_core.proofs.DiskProofs.FaultLemmas.{extent_cause, extent_damaged, extent_reads}
 use Rattle.store_core.proofs.disk.reading.open_extent.Goals as goal
 

@@ -1,6 +1,6 @@
 use Rattle.std.proofs.Common.{◌≡◌, Err, arith, sym, ap, ◌∙◌}
 use Rattle.std.proofs.lemmas.Result.{err_from_is_err_and}
-use Rattle.store_core.specs.declared.disk.fault.FilesFault.TheVariants.{Damaged}
+use Rattle.store_core.specs.declared.fault.OpenFault.TheVariants.{Damaged}
 use Rattle.store_core.proofs.DiskProofs.FaultLemmas.{extent_cause, extent_damaged, extent_reads}
 use Rattle.store_core.proofs.disk.reading.read_items.Goals as goal
 

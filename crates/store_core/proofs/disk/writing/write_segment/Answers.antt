@@ -1,9 +1,9 @@
 use Rattle.host_model.specs.Moments.{begins}
-use Rattle.std.proofs.Common.{◌≡◌, ℕ, ◌+◌, ◌≤◌, Err, sym, ap, subst}
+use Rattle.std.proofs.Common.{◌≡◌, ℕ, ◌+◌, ◌≤◌, sym, subst}
 use Rattle.std.proofs.lemmas.Result.{err_from_is_err_and}
 use Rattle.host_model.specs.declared.file.File.{File}
 use Rattle.extent_file.specs.Slot.{slot_size, slot_start, tier_of}
-use Rattle.store_core.proofs.DiskProofs.FaultLemmas.{extent_cause, extent_written}
+use Rattle.store_core.proofs.DiskProofs.FaultLemmas.{write_cause}
 use Rattle.store_core.proofs.DiskProofs.WriteLemmas.{others_stay, stand_at_start}
 use Rattle.store_core.proofs.disk.writing.write_segment.Goals as goal
 
@@ -37,12 +37,7 @@ pub returns-in_err-write_extent-clause-bound : goal.returns-in_err-write_extent-
 returns-in_err-write_extent-clause-bound g c size fits h before =
     c.write_extent.ensures.bound size (slot_end c.args.file c.args.items size (g.S.Segment.written c.args.segment.now).slot c.slot.result c.slot.ensures fits) h before
 
-pub returns-in_err-write_extent-clause-faults : goal.returns-in_err-write_extent-clause-faults
-returns-in_err-write_extent-clause-faults g c =
-    let p = err_from_is_err_and c.from_residual-in_err-write_extent.result c.from_residual-in_err-write_extent.ensures.1 in
-    rw (p.1, p.2) (extent_written c.in_err-write_extent.field-0.0 (λ place is. c.in_err-write_extent.ensures.not_bad place (ap Err is)))
-
 pub returns-in_err-write_extent-clause-cause : goal.returns-in_err-write_extent-clause-cause
 returns-in_err-write_extent-clause-cause g c =
     let p = err_from_is_err_and c.from_residual-in_err-write_extent.result c.from_residual-in_err-write_extent.ensures.1 in
-    rw (p.1, p.2) (extent_cause _ _ c.in_err-write_extent.field-0.0 c.in_err-write_extent.ensures.cause)
+    rw (p.1, p.2) (write_cause _ _ c.in_err-write_extent.field-0.0 c.in_err-write_extent.ensures.cause)

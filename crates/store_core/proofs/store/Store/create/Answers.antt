@@ -6,13 +6,9 @@ use Rattle.host_model.specs.Disks.{reads_as}
 use Rattle.host_model.specs.Moments.{begins}
 use Rattle.host_model.proofs.DiskLemmas.{disks_weaker}
 use Rattle.checkpoint_body.specs.declared.body.Body.{Body}
-use Rattle.store_core.specs.declared.disk.fault.FilesFault.{FilesFault}
-use Rattle.store_core.specs.declared.disk.fault.FilesFault.TheVariants as files
 use Rattle.store_core.specs.disk.Shares.{share}
-use Rattle.store_core.specs.declared.fault.StoreFault.{StoreFault}
-use Rattle.store_core.specs.declared.fault.StoreFault.TheVariants.{DiskFault, Exists, Memory}
-use Rattle.store_core.specs.Faults.{fault_of_files}
-use Rattle.store_core.proofs.FaultLemmas.{same-fault}
+use Rattle.store_core.specs.declared.fault.CreateFault.{CreateFault}
+use Rattle.store_core.specs.declared.fault.CreateFault.TheVariants.{DiskFault, Exists, Memory}
 use Rattle.store_core.proofs.OpenLemmas.{new-ready, new-room, new-stored, was-or-new}
 use Rattle.store_core.proofs.StandLemmas.{is-made, none-made}
 use Rattle.store_core.proofs.store.Store.create.Goals as goal
@@ -61,14 +57,14 @@ returns-in_err-files-clause-exists g c is h =
     let p = err_from_is_err_and c.from_residual.result c.from_residual.ensures.1 in
     let fault : p.0 ≡ Exists = cc in
     is-made (reads_as (g.H.Host.seen c.args.host.now).past)
-    ∙ c.in_err-files.ensures.exists (ap Err (same-fault c.in_err-files.field-0.0 files.Exists (sym p.2 ∙ fault))) h
+    ∙ c.in_err-files.ensures.exists (ap Err (sym p.2 ∙ fault)) h
 
--- a fault of the files where there is a database
-made_fault : {T U : Type 0} (fault : FilesFault) (other : StoreFault) → other ≡ fault_of_files fault
-    → IsErrOf {T = T} {E = FilesFault} (Err fault) files.Exists ⊎ IsErrOf {T = T} {E = FilesFault} (Err fault) files.DiskFault
-    → IsErrOf {T = U} {E = StoreFault} (Err other) Exists ⊎ IsErrOf {T = U} {E = StoreFault} (Err other) DiskFault ⊎ IsErrOf {T = U} {E = StoreFault} (Err other) Memory
-made_fault fault other same (inl is) = let here : fault ≡ files.Exists = cc in inl (ap Err (same ∙ ap fault_of_files here))
-made_fault fault other same (inr is) = let here : fault ≡ files.DiskFault = cc in inr (inl (ap Err (same ∙ ap fault_of_files here)))
+-- a fault where there is a database
+made_fault : {T U : Type 0} (fault other : CreateFault) → other ≡ fault
+    → IsErrOf {T = T} (Err fault) Exists ⊎ IsErrOf {T = T} (Err fault) DiskFault
+    → IsErrOf {T = U} (Err other) Exists ⊎ IsErrOf {T = U} (Err other) DiskFault ⊎ IsErrOf {T = U} (Err other) Memory
+made_fault fault other same (inl is) = let here : fault ≡ Exists = cc in inl (ap Err (same ∙ here))
+made_fault fault other same (inr is) = let here : fault ≡ DiskFault = cc in inr (inl (ap Err (same ∙ here)))
 
 pub returns-in_err-files-clause-made : goal.returns-in_err-files-clause-made
 returns-in_err-files-clause-made g c h made =
